@@ -1,0 +1,14 @@
+-- What a sheet means. In reading order: rectangles and pictures; how far a step looks; a step as an effect; layers and redraws;
+-- the meaning of each kind and of a step; valid pictures; pictures as bytes; the refusal table; the worked examples.
+pub mod Rect
+pub mod Picture
+pub mod Reach
+pub mod Effect
+pub mod Layers
+pub mod Kinds
+pub mod Steps
+pub mod Valid
+pub mod Bytes
+pub mod Answers
+pub mod Checks
+pub mod Examples
