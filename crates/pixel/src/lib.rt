@@ -1,4 +1,11 @@
 // The arithmetic of one pixel: document 01's "Arithmetic of one pixel".
+pub mod alpha;
+pub mod arith;
+pub mod color_matrix;
+pub mod composite;
+pub mod flood;
+mod signed;
+
 use number::Fixed;
 
 // Four bytes, premultiplied.
