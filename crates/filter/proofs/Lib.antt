@@ -1,0 +1,6 @@
+-- What follows from the rules of specs/.
+pub mod Rects
+pub mod Patches
+pub mod Windows
+pub mod Locality
+pub mod Redraws
