@@ -1,0 +1,45 @@
+-- The pictures that stand in the caller's buffers, and rows of them. Assumes nothing.
+use Prim.Native.Nat.{ℕ, _+_, _*_, _≤_, _<_}
+use mathlib.Core.Path.{_≡_}
+use mathlib.Core.List.{List}
+use lib.ListN.{length}
+use Rattle.pixel.specs.Bytes.{pixelAt}
+use Rattle.filter.specs.declared.Input.{Input}
+use Rattle.filter.specs.declared.Input.the-variants.{Source, SourceAlpha, Layer}
+use Rattle.filter.specs.Picture.{Picture, alphaOf}
+use Rattle.filter.specs.Effect.{Env}
+use Rattle.filter.specs.Bytes.{size, read}
+use Rattle.filter.specs.Valid.{ValidPicture}
+
+-- what stands at each input: the source, its alpha, and the layers in the workspace
+unfoldable pub stands : ℕ → ℕ → List ℕ → List ℕ → Env
+stands w h source workspace Source = read w h source 0
+stands w h source workspace SourceAlpha = alphaOf (read w h source 0)
+stands w h source workspace (Layer k) = read w h workspace (k * size w h)
+
+-- an input that step n may read
+abbrev pub Earlier : ℕ → Input → Type 0
+Earlier n Source = Unit {0}
+Earlier n SourceAlpha = Unit {0}
+Earlier n (Layer k) = k < n
+
+-- where row y of layer n begins
+abbrev pub rowAt : ℕ → ℕ → ℕ → ℕ → ℕ
+rowAt w h n y = n * size w h + 4 * (y * w)
+
+-- the row holds the pixels from `from` up to `to` of row y of the picture
+pub record Loaded (p : Picture) (y from to : ℕ) (row : List ℕ) : Type 0 where
+  pub same : (j : ℕ) → from + j < to → pixelAt row (4 * j) ≡ p (from + j) y
+
+-- what drawing layer n asks of sizes
+pub record Ready (w h n : ℕ) (src ws scr : List ℕ) : Type 0 where
+  pub wide : w ≤ 1024
+  pub high : h ≤ 1024
+  pub steps : n < 16
+  pub source : length src ≡ size w h
+  pub workspace : n * size w h + size w h ≤ length ws
+  pub scratch : length scr ≡ 2 * size w h
+
+-- every picture that step n may read is valid
+pub record ValidInputs (n : ℕ) (E : Env) : Type 0 where
+  pub valid : (i : Input) → Earlier n i → ValidPicture (E i)

@@ -1,0 +1,3 @@
+-- What drawing a step leaves in the buffers.
+pub mod Buffers
+pub mod Drawn

@@ -1,0 +1,2 @@
+// One step drawn inside one rectangle.
+fn nothing() {}
