@@ -1,0 +1,8 @@
+-- What follows from the rules of specs/.
+pub mod Rects
+pub mod Patches
+pub mod Windows
+pub mod Locality
+pub mod Redraws
+pub mod Contents
+pub mod Demand
