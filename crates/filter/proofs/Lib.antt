@@ -4,3 +4,5 @@ pub mod Patches
 pub mod Windows
 pub mod Locality
 pub mod Redraws
+pub mod Contents
+pub mod Demand

@@ -9,6 +9,7 @@ pub mod Kinds
 pub mod Steps
 pub mod Valid
 pub mod Bytes
+pub mod Change
 pub mod Answers
 pub mod Checks
 pub mod Examples

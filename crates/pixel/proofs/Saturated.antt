@@ -4,8 +4,8 @@ use mathlib.Core.Path.{_≡_}
 use native.Mathlib.Nat.{mul-le-mul, sub-le}
 use native.Mathlib.Omega.{arith}
 use Rattle.number.specs.Fraction.{nearest}
-use Rattle.pixel.specs.Coefficient.{Allowed, AllowedRow, AllowedMatrix}
-use Rattle.pixel.specs.Matrix.{plus, row, rising, falling, saturation, luminance}
+use Rattle.pixel.specs.Coefficient.{AllowedRow, AllowedMatrix}
+use Rattle.pixel.specs.Matrix.{row, rising, falling, saturation, luminance}
 
 -- over 65,536,000 the factor 65,536 falls out
 pub nearest-thousandths : (x : ℕ) → nearest x 65536000 ≡ (x + 500) / 1000

@@ -3,8 +3,8 @@ use Prim.Native.Nat.{_+_, _*_}
 use mathlib.Core.Path.{sym}
 use native.Mathlib.Nat.{mul-le-mul}
 use native.Mathlib.Omega.{arith}
-use Rattle.pixel.proofs.Saturated.{nearest-thousandths}
 use borrow.Author.Needs.{needs}
+use Rattle.pixel.proofs.Saturated.{nearest-thousandths}
 use Rattle.pixel.proofs.color_matrix.rising_weight.Statement.{statement}
 use Rattle.pixel.proofs.color_matrix.rising_weight.Tie as tie
 
