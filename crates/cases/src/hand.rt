@@ -1,0 +1,119 @@
+// Document 01's "Checked by hand", those that numbers and pixels can answer: P1 to P5, P7, P8, P12, and the 'Run' cases of numbers.
+ghost use Rattle.pixel.specs.Alpha.{Valid};
+ghost use Rattle.pixel.specs.Coefficient.{Allowed};
+use super::numbers;
+use super::pixels;
+use super::text;
+use number::Fixed;
+use number::Judged;
+use number::Number;
+use number::Range;
+use pixel::Arithmetic;
+use pixel::Operator;
+use pixel::Pixel;
+
+fn opaque(r: u8, g: u8, b: u8) -> Pixel
+    ensures { λ p. ⌜ Valid p ⌝ }
+{
+    Pixel { r, g, b, a: 255 }
+}
+
+// The units of a coefficient, 0 where it is refused.
+fn coefficient(number: Number) -> Fixed
+    ensures { λ f. ⌜ Allowed f ⌝ }
+{
+    match number::judge(Range::Coefficient, number) {
+        Judged::Accepted(f) => f,
+        Judged::Refused(_) => Fixed { above: 0, below: 0 },
+    }
+}
+
+fn print_byte(name: &[u8], value: u8) {
+    text::word(name);
+    text::number(value as u64);
+    text::end();
+}
+
+fn print_pixel(name: &[u8], value: Pixel) {
+    text::word(name);
+    pixels::print_pixel(value);
+    text::end();
+}
+
+fn print_number(name: &[u8], range: Range, number: Number) {
+    text::word(name);
+    numbers::print(number::judge(range, number));
+}
+
+fn print_alphas() {
+    print_byte(b"P1", pixel::alpha::premultiply(255, 128));
+    print_byte(b"P2", pixel::alpha::unpremultiply(1, 3));
+    print_byte(b"P2 back", pixel::alpha::premultiply(85, 3));
+}
+
+fn print_composites() {
+    let a = Pixel {
+        r: 128,
+        g: 0,
+        b: 0,
+        a: 128,
+    };
+    let b = opaque(0, 0, 255);
+    print_pixel(b"P3", pixel::composite::composite(Operator::Over, a, b));
+    let c = opaque(17, 200, 255);
+    print_pixel(b"P4", pixel::composite::composite(Operator::Xor, b, c));
+}
+
+// k2 = k3 = 0.5 on the bytes 255 and 0.
+fn print_arithmetic() {
+    let half = coefficient(Number::Decimal(5000));
+    let none = coefficient(Number::Decimal(0));
+    let k = Arithmetic {
+        k1: none,
+        k2: half,
+        k3: half,
+        k4: none,
+    };
+    print_byte(b"P5", pixel::arith::arithmetic_channel(k, 255, 0));
+}
+
+fn print_matrices() {
+    let m = pixel::color_matrix::saturation_matrix(0);
+    text::word(b"P7");
+    text::number(m.r.r.above);
+    text::number(m.r.g.above);
+    text::number(m.r.b.above);
+    text::end();
+    let white = opaque(255, 255, 255);
+    let l = pixel::color_matrix::luminance_matrix();
+    print_pixel(b"P8", pixel::color_matrix::transform(l, white));
+}
+
+fn print_numbers() {
+    print_number(b"P12", Range::Deviation, Number::Decimal(-1));
+    print_number(
+        b"P12 zero",
+        Range::Deviation,
+        Number::Single(number::single(0x80000000)),
+    );
+    print_number(b"Run 32", Range::Deviation, Number::Decimal(320000));
+    print_number(
+        b"Run above 32",
+        Range::Deviation,
+        Number::Single(number::single(0x42000001)),
+    );
+    print_number(
+        b"Run x7fc00000",
+        Range::Deviation,
+        Number::Single(number::single(0x7fc00000)),
+    );
+    print_number(b"Run 0.5", Range::Offset, Number::Decimal(5000));
+}
+
+pub fn print_all() {
+    print_alphas();
+    print_composites();
+    print_arithmetic();
+    print_matrices();
+    print_numbers();
+}
