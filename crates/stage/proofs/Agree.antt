@@ -8,9 +8,9 @@ use Rattle.filter.specs.declared.Input.the-variants.{Source, SourceAlpha, Layer
 use Rattle.filter.specs.declared.Rect.{Rect}
 use Rattle.filter.specs.Picture.{Picture}
 use Rattle.filter.specs.Bytes.{size}
-use Rattle.draw.specs.Buffers.{stands, Earlier, ValidInputs}
-use Rattle.draw.specs.Drawn.{Drawn}
-use Rattle.draw.proofs.Rows.{drawn-other}
+use Rattle.stage.specs.Buffers.{stands, Earlier, ValidInputs}
+use Rattle.stage.specs.Drawn.{Drawn}
+use Rattle.stage.proofs.Rows.{drawn-other}
 
 -- the same at the source, its alpha and the layers below n
 pub record Agree {A : Type 0} (n : ℕ) (E F : Input → A) : Type 0 where

@@ -16,9 +16,9 @@ use Rattle.filter.specs.Picture.{Picture, patch}
 use Rattle.filter.specs.Bytes.{size, read}
 use Rattle.filter.proofs.Rects.{in?}
 use Rattle.filter.proofs.Patches.{patch-in, patch-out}
-use Rattle.draw.specs.Drawn.{Drawn, band}
-use Rattle.draw.proofs.Pixels.{pixel-same, below, row-ends}
-use Rattle.draw.proofs.Read.{read-same}
+use Rattle.stage.specs.Drawn.{Drawn, band}
+use Rattle.stage.proofs.Pixels.{pixel-same, below, row-ends}
+use Rattle.stage.proofs.Read.{read-same}
 
 -- nothing to draw
 pub drawn-none : (w h n : ℕ) (r : Rect) (new : Picture) (d : List ℕ) → ((x y : ℕ) → ¬ In r x y) → Drawn w h n r new d d

@@ -7,7 +7,7 @@ use lib.ListN.{length, getD, take, drop, length-append, length-take, length-drop
 use lib.Seq.{getD-take, getD-drop, getD-append-add, length-take-le}
 use Rattle.pixel.specs.declared.Pixel.{Pixel}
 use Rattle.pixel.specs.Bytes.{pixelAt, Painted}
-use Rattle.draw.proofs.Pixels.{pixel-same}
+use Rattle.stage.proofs.Pixels.{pixel-same}
 
 abbrev pub back : List ℕ → ℕ → ℕ → List ℕ → List ℕ
 back d o k m = take o d ++ (m ++ drop k (drop o d))
