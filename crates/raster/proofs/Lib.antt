@@ -3,3 +3,4 @@ pub mod Painting
 pub mod Words
 pub mod Parts
 pub mod Moving
+pub mod Blending

@@ -1,12 +1,15 @@
 -- Packed pixels taken apart again. Assumes nothing.
-use mathlib.Core.Path.{_≡_, refl, ap}
+use mathlib.Core.Path.{_≡_, refl, ap, _∙_}
+use mathlib.Core.List.{List}
 use Prim.Native.Nat.{ℕ, _+_, _*_, _/_, _%_, _<_}
 use native.Mathlib.Omega.{arith}
 use Rattle.pixel.specs.declared.Pixel.{Pixel}
 use Rattle.pixel.specs.Alpha.{pixel, Bytes}
+use Rattle.pixel.specs.Bytes.{Painted}
 use Rattle.raster.specs.Word.{packed, unpacked, Packed}
 use Rattle.raster.specs.Row.{alphaOf}
 use Rattle.raster.specs.Work.{grey}
+use Rattle.raster.proofs.Painting.{painted-more}
 
 same : (p q : Pixel) → p .r ≡ q .r → p .g ≡ q .g → p .b ≡ q .b → p .a ≡ q .a → p ≡ q
 same p q e0 e1 e2 e3 = λ t. record { r = e0 t; g = e1 t; b = e2 t; a = e3 t }
@@ -35,3 +38,7 @@ pub unpacked-alpha : (p : Pixel) (v : ℕ) → v < 4294967296 → Packed p v →
 unpacked-alpha p v l h =
     let e : v / 16777216 * 16777216 ≡ packed (alphaOf p) = omega (arith, packed-alpha p v h) in
     rw e (unpacked-packed (alphaOf p) (record { r = omega arith; g = omega arith; b = omega arith; a = omega (arith, packed-alpha p v h) }))
+
+-- one factor more, in all four bytes of a pixel
+pub factor-more : (φ : ℕ → ℕ) (v i x : ℕ) (d₀ d d′ : List ℕ) → i ≡ 4 * x → v ≡ φ x → v < 256 → Painted (λ t. grey (φ t)) 0 0 x d₀ d → Painted (λ _. unpacked (v * 16843009)) i 0 1 d d′ → Painted (λ t. grey (φ t)) 0 0 (x + 1) d₀ d′
+factor-more φ v i x d₀ d d′ at e l P Q = painted-more (λ t. grey (φ t)) _ 0 i 0 x d₀ d d′ (omega arith) (omega arith) (unpacked-grey v l ∙ ap grey e) P Q
