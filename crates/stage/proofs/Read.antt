@@ -14,7 +14,7 @@ use Rattle.filter.specs.Valid.{BlankOutside}
 use Rattle.filter.specs.Bytes.{size, read}
 use Rattle.filter.proofs.Rects.{in?}
 use Rattle.filter.proofs.Patches.{patch-in, patch-out}
-use Rattle.stage.specs.Buffers.{stands, Loaded}
+use Rattle.stage.specs.Buffers.{stands}
 
 pub read-at : (w h : ℕ) (d : List ℕ) (o x y : ℕ) → x < w → y < h → read w h d o x y ≡ pixelAt d (o + 4 * (y * w + x))
 unfolding read

@@ -1,9 +1,9 @@
 -- The pictures that stand in the caller's buffers, and rows of them. Assumes nothing.
-use Prim.Native.Nat.{ℕ, _+_, _*_, _≤_, _<_}
+use Prim.Native.Nat.{ℕ, _+_, _-_, _*_, _≤_, _<_}
 use mathlib.Core.Path.{_≡_}
 use mathlib.Core.List.{List}
 use lib.ListN.{length}
-use Rattle.pixel.specs.Bytes.{pixelAt}
+use Rattle.pixel.specs.Bytes.{Painted}
 use Rattle.filter.specs.declared.Input.{Input}
 use Rattle.filter.specs.declared.Input.the-variants.{Source, SourceAlpha, Layer}
 use Rattle.filter.specs.Picture.{Picture, alphaOf}
@@ -27,18 +27,17 @@ Earlier n (Layer k) = k < n
 abbrev pub rowAt : ℕ → ℕ → ℕ → ℕ → ℕ
 rowAt w h n y = n * size w h + 4 * (y * w)
 
--- the row holds the pixels from `from` up to `to` of row y of the picture
-pub record Loaded (p : Picture) (y from to : ℕ) (row : List ℕ) : Type 0 where
-  pub same : (j : ℕ) → from + j < to → pixelAt row (4 * j) ≡ p (from + j) y
+-- the work row now starts with the pixels from `from` up to `to` of row y of the picture
+abbrev pub Loaded : Picture → ℕ → ℕ → ℕ → List ℕ → List ℕ → Type 0
+Loaded p y from to row row′ = Painted (λ j. p (from + j) y) 0 0 (to - from) row row′
 
--- what drawing layer n asks of sizes
-pub record Ready (w h n : ℕ) (src ws scr : List ℕ) : Type 0 where
+-- what drawing layer n asks of the canvas, the source and the workspace
+pub record Sized (w h n : ℕ) (src ws : List ℕ) : Type 0 where
   pub wide : w ≤ 1024
   pub high : h ≤ 1024
   pub steps : n < 16
   pub source : length src ≡ size w h
   pub workspace : n * size w h + size w h ≤ length ws
-  pub scratch : length scr ≡ 2 * size w h
 
 -- every picture that step n may read is valid
 pub record ValidInputs (n : ℕ) (E : Env) : Type 0 where

@@ -1,0 +1,6 @@
+-- Laws of the definitions that the kernels' contracts cite.
+pub mod Painting
+pub mod Words
+pub mod Parts
+pub mod Moving
+pub mod Blending

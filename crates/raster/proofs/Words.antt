@@ -1,0 +1,44 @@
+-- Packed pixels taken apart again. Assumes nothing.
+use mathlib.Core.Path.{_≡_, refl, ap, _∙_}
+use mathlib.Core.List.{List}
+use Prim.Native.Nat.{ℕ, _+_, _*_, _/_, _%_, _<_}
+use native.Mathlib.Omega.{arith}
+use Rattle.pixel.specs.declared.Pixel.{Pixel}
+use Rattle.pixel.specs.Alpha.{pixel, Bytes}
+use Rattle.pixel.specs.Bytes.{Painted}
+use Rattle.raster.specs.Word.{packed, unpacked, Packed}
+use Rattle.raster.specs.Row.{alphaOf}
+use Rattle.raster.specs.Work.{grey}
+use Rattle.raster.proofs.Painting.{painted-more}
+
+same : (p q : Pixel) → p .r ≡ q .r → p .g ≡ q .g → p .b ≡ q .b → p .a ≡ q .a → p ≡ q
+same p q e0 e1 e2 e3 = λ t. record { r = e0 t; g = e1 t; b = e2 t; a = e3 t }
+
+pub unpacked-packed : (p : Pixel) → Bytes p → unpacked (packed p) ≡ p
+unpacked-packed p h = same (unpacked (packed p)) p (omega arith) (omega arith) (omega arith) (omega arith)
+
+-- four bytes put together
+pub packed-by : (p : Pixel) (r g b a : ℕ) → (r ≡ p .r) × (r < 256) → (g ≡ p .g) × (g < 256) → (b ≡ p .b) × (b < 256) → (a ≡ p .a) × (a < 256) → Packed p (r + g * 256 + b * 65536 + a * 16777216)
+packed-by p r g b a hr hg hb ha =
+    let e : r + g * 256 + b * 65536 + a * 16777216 ≡ packed p = omega arith in
+    record { is = e; holds = rw e (unpacked-packed p (record { r = omega arith; g = omega arith; b = omega arith; a = omega arith })) }
+
+-- the alpha of a packed pixel
+pub packed-alpha : (p : Pixel) (v : ℕ) → Packed p v → v / 16777216 ≡ p .a
+packed-alpha p v h = ap (λ (q : Pixel). q .a) (h .holds)
+
+-- a byte in all four channels
+pub unpacked-grey : (v : ℕ) → v < 256 → unpacked (v * 16843009) ≡ grey v
+unpacked-grey v h =
+    let e : v * 16843009 ≡ packed (grey v) = omega arith in
+    rw e (unpacked-packed (grey v) (record { r = h; g = h; b = h; a = h }))
+
+-- a word's alpha, its colours dropped
+pub unpacked-alpha : (p : Pixel) (v : ℕ) → v < 4294967296 → Packed p v → unpacked (v / 16777216 * 16777216) ≡ alphaOf p
+unpacked-alpha p v l h =
+    let e : v / 16777216 * 16777216 ≡ packed (alphaOf p) = omega (arith, packed-alpha p v h) in
+    rw e (unpacked-packed (alphaOf p) (record { r = omega arith; g = omega arith; b = omega arith; a = omega (arith, packed-alpha p v h) }))
+
+-- one factor more, in all four bytes of a pixel
+pub factor-more : (φ : ℕ → ℕ) (v i x : ℕ) (d₀ d d′ : List ℕ) → i ≡ 4 * x → v ≡ φ x → v < 256 → Painted (λ t. grey (φ t)) 0 0 x d₀ d → Painted (λ _. unpacked (v * 16843009)) i 0 1 d d′ → Painted (λ t. grey (φ t)) 0 0 (x + 1) d₀ d′
+factor-more φ v i x d₀ d d′ at e l P Q = painted-more (λ t. grey (φ t)) _ 0 i 0 x d₀ d d′ (omega arith) (omega arith) (unpacked-grey v l ∙ ap grey e) P Q

@@ -1,0 +1,54 @@
+-- `raster::bytes::joined` meets its contract: a packed pixel can be taken apart again. Assumes nothing.
+use borrow.Author.Needs.{needs}
+use Rattle.raster.proofs.Words.{packed-by}
+use Rattle.raster.proofs.bytes.joined.Statement.{statement}
+use Rattle.raster.proofs.bytes.joined.Tie as tie
+
+wide-requires : tie.Need-wide-requires
+wide-requires c κs = search needs
+
+wide-requires-2 : tie.Need-wide-requires-2
+wide-requires-2 c κs = search needs
+
+mul-result : tie.Need-mul-result
+mul-result c = search needs
+
+add-result : tie.Need-add-result
+add-result c = search needs
+
+wide-requires-3 : tie.Need-wide-requires-3
+wide-requires-3 c κs = search needs
+
+mul-result-2 : tie.Need-mul-result-2
+mul-result-2 c = search needs
+
+add-result-2 : tie.Need-add-result-2
+add-result-2 c = search needs
+
+wide-requires-4 : tie.Need-wide-requires-4
+wide-requires-4 c κs = search needs
+
+mul-result-3 : tie.Need-mul-result-3
+mul-result-3 c = search needs
+
+add-result-3 : tie.Need-add-result-3
+add-result-3 c = search needs
+
+returns : tie.Need-returns
+returns c = packed-by _ _ _ _ _ (c .before .before .before .wide .ensures) (c .before .before .wide2 .ensures) (c .before .wide3 .ensures) (c .wide4 .ensures)
+
+pub joined-spec : {M : Type 1} → statement M
+joined-spec =
+    tie.close
+    (tie.spec
+    wide-requires
+    wide-requires-2
+    mul-result
+    add-result
+    wide-requires-3
+    mul-result-2
+    add-result-2
+    wide-requires-4
+    mul-result-3
+    add-result-3
+    returns)

@@ -1,0 +1,65 @@
+-- `raster::bytes::put` meets its contract: four stores paint one pixel. Assumes nothing.
+use Prim.Native.Nat.{_+_, _≤_}
+use native.Mathlib.Omega.{arith}
+use borrow.Author.Needs.{needs}
+use lib.ListN.{length-set}
+use Rattle.raster.proofs.Painting.{painted-one}
+use Rattle.raster.proofs.bytes.put.Statement.{statement}
+use Rattle.raster.proofs.bytes.put.Tie as tie
+
+cast-d : tie.Need-cast-d
+cast-d c = search needs
+
+slice-write-d : tie.Need-slice-write-d
+slice-write-d c = search needs
+
+cast-d-2 : tie.Need-cast-d-2
+cast-d-2 c = search needs
+
+add-d : tie.Need-add-d
+add-d c = search needs
+
+slice-write-d-2 : tie.Need-slice-write-d-2
+slice-write-d-2 c = simp length-set (omega arith)
+
+cast-d-3 : tie.Need-cast-d-3
+cast-d-3 c = search needs
+
+add-d-2 : tie.Need-add-d-2
+add-d-2 c = search needs
+
+slice-write-d-3 : tie.Need-slice-write-d-3
+slice-write-d-3 c = simp length-set (omega arith)
+
+cast-d-4 : tie.Need-cast-d-4
+cast-d-4 c = search needs
+
+add-d-3 : tie.Need-add-d-3
+add-d-3 c = search needs
+
+slice-write-d-4 : tie.Need-slice-write-d-4
+slice-write-d-4 c = simp length-set (omega arith)
+
+same-length : tie.Need-same-length
+same-length c = search needs
+
+returns : tie.Need-returns
+returns c = painted-one _ _ _ (c .pre)
+
+pub put-spec : {M : Type 1} → statement M
+put-spec =
+    tie.close
+    (tie.spec
+    cast-d
+    slice-write-d
+    cast-d-2
+    add-d
+    slice-write-d-2
+    cast-d-3
+    add-d-2
+    slice-write-d-3
+    cast-d-4
+    add-d-3
+    slice-write-d-4
+    same-length
+    returns)
