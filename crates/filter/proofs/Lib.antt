@@ -6,3 +6,6 @@ pub mod Locality
 pub mod Redraws
 pub mod Contents
 pub mod Demand
+pub mod Concat
+pub mod Joins
+pub mod Areas
