@@ -77,3 +77,6 @@ module _ (w h count : ℕ) (p : ℕ → Picture) where
 
   pub holds-bytes : (d : List ℕ) → Holds w h count d p → d ≡ bytesOf w h count p
   holds-bytes d hd = holds-unique w h count d (bytesOf w h count p) p p hd bytes-hold λ n l. refl
+
+pub bytes-same : (w h count : ℕ) (p q : ℕ → Picture) → ((n : ℕ) → n < count → p n ≡ q n) → bytesOf w h count p ≡ bytesOf w h count q
+bytes-same w h count p q e = concat-same _ _ count λ n l. ap (λ (f : Picture). concat (λ y. concat (λ x. fourBytes (f x y)) w) h) (e n l)

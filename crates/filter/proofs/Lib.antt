@@ -9,3 +9,6 @@ pub mod Demand
 pub mod Concat
 pub mod Joins
 pub mod Areas
+pub mod Earlier
+pub mod Keeps
+pub mod Units
