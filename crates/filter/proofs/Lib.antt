@@ -12,3 +12,4 @@ pub mod Areas
 pub mod Earlier
 pub mod Keeps
 pub mod Units
+pub mod Validity
