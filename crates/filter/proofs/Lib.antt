@@ -13,3 +13,5 @@ pub mod Earlier
 pub mod Keeps
 pub mod Units
 pub mod Validity
+pub mod ValidLayers
+pub mod Scans

@@ -39,6 +39,11 @@ clear-bytes = record { r = omega arith; g = omega arith; b = omega arith; a = om
 pub clear-valid : A.Valid A.clear
 clear-valid = record { r = omega arith; g = omega arith; b = omega arith }
 
+-- one of two pixels
+pub either-holds : (P : Pixel → Type 0) (t : Bool) {c d : Pixel} → P c → P d → P (cond t c d)
+either-holds P true h k = h
+either-holds P false h k = k
+
 -- a rule across, then a rule down, at each channel
 each-valid : {F G : Rule} → Keeps F → Keeps G → (p : Picture) → ValidPicture p → ValidPicture (each (bothWays F G) p)
 each-valid k l p h = record {
@@ -58,17 +63,9 @@ each-valid k l p h = record {
 shifted-valid : (dx dy : Shift) (p : Picture) → ValidPicture p → ValidPicture (shifted dx dy p)
 unfolding shifted
 shifted-valid dx dy p h = record {
-  bytes = λ x y. byte (leb (dx .plus) (x + dx .minus) && leb (dy .plus) (y + dy .minus)) (h .bytes _ _);
-  valid = λ x y. below (leb (dx .plus) (x + dx .minus) && leb (dy .plus) (y + dy .minus)) (h .valid _ _);
+  bytes = λ x y. either-holds A.Bytes (leb (dx .plus) (x + dx .minus) && leb (dy .plus) (y + dy .minus)) (h .bytes _ _) clear-bytes;
+  valid = λ x y. either-holds A.Valid (leb (dx .plus) (x + dx .minus) && leb (dy .plus) (y + dy .minus)) (h .valid _ _) clear-valid;
 }
-  where
-    byte : (t : Bool) {c : Pixel} → A.Bytes c → A.Bytes (cond t c A.clear)
-    byte true k = k
-    byte false k = clear-bytes
-
-    below : (t : Bool) {c : Pixel} → A.Valid c → A.Valid (cond t c A.clear)
-    below true k = k
-    below false k = clear-valid
 
 -- merge
 module _ (E : Env) (x y : ℕ) where
