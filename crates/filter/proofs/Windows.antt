@@ -25,7 +25,7 @@ looks-wider h k l f g x e = l f g x λ u s. e u (record { low = omega arith; hig
 pub looks-then : {F G : Rule} {b a b′ a′ : ℕ} → Looks F b a → Looks G b′ a′ → Looks (λ f. G (F f)) (b + b′) (a + a′)
 looks-then {F} l m f g x e = m (F f) (F g) x λ u s. l f g u λ v t. e v (record { low = omega arith; high = omega arith })
 
-fold-same : (op : ℕ → ℕ → ℕ) (e n : ℕ) (f g : ℕ → ℕ) → ((t : ℕ) → t < n → f t ≡ g t) → W.fold op e n f ≡ W.fold op e n g
+pub fold-same : (op : ℕ → ℕ → ℕ) (e n : ℕ) (f g : ℕ → ℕ) → ((t : ℕ) → t < n → f t ≡ g t) → W.fold op e n f ≡ W.fold op e n g
 unfolding W.fold
 fold-same op e zero f g h = refl
 fold-same op e (suc n) f g h = ap₂ op (fold-same op e n f g (λ t l. h t (omega arith))) (h n (omega arith))

@@ -12,4 +12,5 @@ pub mod Bytes
 pub mod Change
 pub mod Answers
 pub mod Checks
+pub mod Earlier
 pub mod Examples
