@@ -1,6 +1,6 @@
 -- Laws of what is drawn.
-pub mod Pixels
-pub mod Parts
+pub mod Sizes
 pub mod Read
 pub mod Rows
 pub mod Agree
+pub mod Places

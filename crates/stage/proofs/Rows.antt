@@ -17,7 +17,8 @@ use Rattle.filter.specs.Bytes.{size, read}
 use Rattle.filter.proofs.Rects.{in?}
 use Rattle.filter.proofs.Patches.{patch-in, patch-out}
 use Rattle.stage.specs.Drawn.{Drawn, band}
-use Rattle.stage.proofs.Pixels.{pixel-same, below, row-ends}
+use Rattle.raster.proofs.Painting.{pixel-same}
+use Rattle.stage.proofs.Sizes.{below, row-ends}
 use Rattle.stage.proofs.Read.{read-same}
 
 -- nothing to draw

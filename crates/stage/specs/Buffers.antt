@@ -23,7 +23,10 @@ Earlier n Source = Unit {0}
 Earlier n SourceAlpha = Unit {0}
 Earlier n (Layer k) = k < n
 
--- where row y of layer n begins
+-- where row y of layer n begins, in pixels and in bytes
+abbrev pub placeOf : ℕ → ℕ → ℕ → ℕ → ℕ
+placeOf w h n y = n * (w * h) + y * w
+
 abbrev pub rowAt : ℕ → ℕ → ℕ → ℕ → ℕ
 rowAt w h n y = n * size w h + 4 * (y * w)
 
