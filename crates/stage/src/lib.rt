@@ -6,7 +6,10 @@ ghost use Rattle.pixel.specs.Bytes.{pixelAt, Painted};
 ghost use Rattle.raster.specs.Row.{alphaOf};
 ghost use Rattle.filter.specs.Bytes.{size};
 ghost use Rattle.stage.specs.Buffers.{stands, Earlier, rowAt, placeOf, Loaded, Sized};
+ghost use Rattle.stage.specs.Drawn.{Drawn};
+ghost use Rattle.stage.specs.Strip.{stripAt};
 use filter::Input;
+use filter::Rect;
 
 // The place of the first pixel of row y of layer n, counted in pixels.
 pub fn place(w: usize, h: usize, n: usize, y: usize) -> usize
@@ -80,4 +83,30 @@ pub fn store(
 {
     let p = place(w, h, n, y);
     raster::row::copy_pixels(row, at, workspace, p + from, p + to);
+}
+
+// The rows top .. bottom - 1 of a strip, to the same rows of layer n.
+pub fn store_rows(
+    workspace: &mut [u8],
+    w: usize,
+    h: usize,
+    n: usize,
+    rect: Rect,
+    strip: &[u8],
+    at: usize,
+    first: usize,
+)
+    requires { ⌜ (w ≤ 1024) × (h ≤ 1024) × (n < 16) × (n * size w h + size w h ≤ length (now workspace)) ⌝ }
+    requires { ⌜ (rect .left < rect .right) × (rect .right ≤ w) × (first ≤ rect .top) × (rect .bottom ≤ h) × (4 * (at + (rect .bottom - first) * (rect .right - rect .left)) ≤ length (now strip)) ⌝ }
+    ensures { λ _. ⌜ Drawn w h n rect (stripAt (now (strip .entry)) at (rect .left) (rect .right) first) (now (workspace .entry)) (now (workspace .exit)) ⌝ }
+{
+    let left = rect.left;
+    let right = rect.right;
+    let top = rect.top;
+    let bottom = rect.bottom;
+    let width = right - left;
+    for y in top..bottom {
+        let from = at + (y - first) * width;
+        store(workspace, w, h, n, y, left, right, strip, from);
+    }
 }
