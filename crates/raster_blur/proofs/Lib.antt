@@ -1,0 +1,4 @@
+-- The laws that the functions' proofs share.
+pub mod Divide
+pub mod Slide
+pub mod Lines

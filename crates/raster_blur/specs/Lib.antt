@@ -1,0 +1,4 @@
+-- What the crate's clauses cite.
+pub mod Reciprocal
+pub mod Place
+pub mod Running

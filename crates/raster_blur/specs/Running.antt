@@ -1,0 +1,18 @@
+-- The running sums of a box pass, which only the code needs: no promise to a caller cites them. Assumes nothing.
+use mathlib.Core.Path.{_≡_}
+use mathlib.Core.List.{List}
+use Prim.Native.Nat.{ℕ, _+_, _*_, _/_, _≤_, _<_}
+use lib.ListN.{length, getD}
+use Rattle.window.specs.Window.{fold, behind, column}
+
+-- the sum over the window that the pass holds before it comes to place y: y - back - 1 .. y + ahead - 1
+unfoldable pub running : ℕ → ℕ → (ℕ → ℕ) → ℕ → ℕ
+running back ahead f y = fold _+_ 0 (back + ahead + 1) (λ t. behind (back + 1) f (y + t))
+
+-- the same with half of the window's size added, so that a division rounds
+abbrev pub rounded : ℕ → ℕ → (ℕ → ℕ) → ℕ → ℕ
+rounded back ahead f y = (back + ahead + 1) / 2 + running back ahead f y
+
+-- sums holds these for each byte column of the lines at o
+abbrev pub Sums : List ℕ → ℕ → ℕ → ℕ → ℕ → ℕ → ℕ → List ℕ → Type 0
+Sums d o n count back ahead y sums = (i : ℕ) → i < n → getD sums i 0 ≡ rounded back ahead (column d o n count i) y
