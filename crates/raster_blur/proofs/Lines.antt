@@ -3,13 +3,13 @@ use mathlib.Core.Path.{_≡_, refl, sym, ap, _∙_, fun-ext}
 use mathlib.Core.List.{List}
 use mathlib.Core.Logic.{⊎-elim, _≢_}
 use Prim.Native.Nat.{ℕ, zero, suc, _+_, _-_, _*_, _≤_, _<_}
-use native.Mathlib.Nat.{mul-le-mul-right}
+use native.Mathlib.Nat.{add-zero, mul-le-mul-right}
 use native.Mathlib.Omega.{arith}
-use lib.ListN.{length, getD}
+use lib.ListN.{length, getD, set}
 use borrow.Author.Tests.{lt-ltb, le-ltb}
 use Rattle.window.specs.Store.{Filled, Lined, byteAt}
 use Rattle.window.specs.Window.{within, column}
-use Rattle.window.proofs.Store.{lt-or-le}
+use Rattle.window.proofs.Store.{lt-or-le, filled-none, filled-more}
 use Rattle.raster_blur.specs.Place.{Apart}
 
 pub within-in : (n : ℕ) (f : ℕ → ℕ) (x : ℕ) → x < n → within n f x ≡ f x
@@ -48,6 +48,15 @@ line-end n count v h = omega (arith, mul-le-mul-right n h)
 pub lined-none : (f : ℕ → ℕ → ℕ) (o n : ℕ) (d : List ℕ) → Lined f o n 0 d d
 lined-none f o n d = record { inside = λ v i h l. absurd (omega arith); before = λ i h. refl; after = λ i h. refl; long = refl }
 
+-- the bytes of a line, one store after another
+pub line-none : (f : ℕ → ℕ) (r : ℕ) (d : List ℕ) → Filled (λ j. f (j - r)) r (r + 0) d d
+line-none f r d = rw (add-zero r) (filled-none (λ j. f (j - r)) r d)
+
+pub line-more : (f : ℕ → ℕ) (r i v : ℕ) (d d′ : List ℕ) → r + i < length d → v ≡ f i → Filled (λ j. f (j - r)) r (r + i) d d′ → Filled (λ j. f (j - r)) r (r + (i + 1)) d (set d′ (r + i) v)
+line-more f r i v d d′ h e F =
+    let q : r + (i + 1) ≡ r + i + 1 = omega arith in
+    rw q (filled-more (λ j. f (j - r)) r (r + i) v d d′ (omega arith) h (e ∙ ap f (omega arith)) F)
+
 -- one line more
 pub lined-more : (f : ℕ → ℕ → ℕ) (o n y : ℕ) (d d′ d″ : List ℕ) → Lined f o n y d d′
     → Filled (λ j. f y (j - (o + y * n))) (o + y * n) (o + y * n + n) d′ d″ → Lined f o n (y + 1) d d″
@@ -66,19 +75,26 @@ pub lined-column : (f : ℕ → ℕ → ℕ) (o n count : ℕ) (d d′ : List �
 unfolding column
 lined-column f o n count d d′ L i l = within-same count (λ v. byteAt d′ o n v i) (λ v. f v i) (λ v h. L .inside v i h l)
 
--- storing lines leaves those that lie apart
-module _ (f : ℕ → ℕ → ℕ) (from to n y count : ℕ) (d d′ : List ℕ) (L : Lined f to n y d d′) (le : y ≤ count) (apart : Apart (count * n) from to) where
-  pub lined-apart : (k : ℕ) → k < count * n → getD d′ (from + k) 0 ≡ getD d (from + k) 0
-  lined-apart k h = ⊎-elim
-      (λ l. L .before (from + k) l)
-      (λ l. L .after (from + k) (⊎-elim
-      (λ m. let e : from + k ≡ to + (from + k - to) = omega arith in absurd (apart k (from + k - to) h (omega (arith, m, mul-le-mul-right n le)) e))
-      (λ m. m)
-      (lt-or-le (from + k) (to + y * n))))
-      (lt-or-le (from + k) to)
+-- what changes only the m places from b on leaves the places from a on
+apart-kept : (size a b m : ℕ) (d d′ : List ℕ) → Apart size a b → m ≤ size
+    → ((j : ℕ) → j < b → getD d′ j 0 ≡ getD d j 0) → ((j : ℕ) → b + m ≤ j → getD d′ j 0 ≡ getD d j 0)
+    → (k : ℕ) → k < size → getD d′ (a + k) 0 ≡ getD d (a + k) 0
+apart-kept size a b m d d′ apart le before after k h = ⊎-elim
+    (λ l. before (a + k) l)
+    (λ l. ⊎-elim
+    (λ l′. let e : a + k ≡ b + (a + k - b) = omega arith in absurd (apart k (a + k - b) h (omega arith) e))
+    (λ l′. after (a + k) l′)
+    (lt-or-le (a + k) (b + m)))
+    (lt-or-le (a + k) b)
 
-  pub kept-column : (i : ℕ) → i < n → column d′ from n count i ≡ column d from n count i
-  unfolding column
-  kept-column i l = within-same count (λ v. byteAt d′ from n v i) (λ v. byteAt d from n v i) (λ v h.
-      let e : from + v * n + i ≡ from + (v * n + i) = omega arith in
-      let p = lined-apart (v * n + i) (omega (arith, line-end n count v h)) in rw e p)
+-- storing a line leaves one that lies apart
+pub line-apart : (f : ℕ → ℕ) (p r m n : ℕ) (d d′ : List ℕ) → Apart n p r → m ≤ n → Filled f r (r + m) d d′ → (k : ℕ) → k < n → getD d′ (p + k) 0 ≡ getD d (p + k) 0
+line-apart f p r m n d d′ apart le F = apart-kept n p r m d d′ apart le (F .before) (F .after)
+
+-- storing lines leaves the columns of those that lie apart
+pub lined-apart : (f : ℕ → ℕ → ℕ) (from to n y count : ℕ) (d d′ : List ℕ) → Apart (count * n) from to → y ≤ count → Lined f to n y d d′
+    → (i : ℕ) → i < n → column d′ from n count i ≡ column d from n count i
+unfolding column
+lined-apart f from to n y count d d′ apart le L i l = within-same count (λ v. byteAt d′ from n v i) (λ v. byteAt d from n v i) (λ v h.
+    let e : from + v * n + i ≡ from + (v * n + i) = omega arith in
+    rw e (apart-kept (count * n) from to (y * n) d d′ apart (mul-le-mul-right n le) (L .before) (L .after) (v * n + i) (omega (arith, line-end n count v h))))

@@ -1,3 +1,3 @@
 // Box passes of a blur on lines of bytes in one buffer, and pixels of a row to and from lines.
 pub mod reciprocal; // division of a window's sum by its size, without dividing
-pub mod pass; // one box pass over lines
+pub mod sums; // the sums of byte columns, moved on by a line
