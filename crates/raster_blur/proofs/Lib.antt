@@ -1,4 +1,6 @@
 -- The laws that the functions' proofs share.
 pub mod Divide
 pub mod Slide
+pub mod Ranges
 pub mod Lines
+pub mod Passes

@@ -98,3 +98,8 @@ unfolding column
 lined-apart f from to n y count d d′ apart le L i l = within-same count (λ v. byteAt d′ from n v i) (λ v. byteAt d from n v i) (λ v h.
     let e : from + v * n + i ≡ from + (v * n + i) = omega arith in
     rw e (apart-kept (count * n) from to (y * n) d d′ apart (mul-le-mul-right n le) (L .before) (L .after) (v * n + i) (omega (arith, line-end n count v h))))
+
+-- lines of the one kind lie apart from lines of the other
+pub lines-apart : (size from to n count v y : ℕ) → size ≡ count * n → Apart size from to → v < count → y < count → Apart n (from + v * n) (to + y * n)
+lines-apart size from to n count v y e apart hv hy i j hi hj q =
+    apart (v * n + i) (y * n + j) (omega (arith, line-end n count v hv)) (omega (arith, line-end n count y hy)) (omega arith)

@@ -4,6 +4,7 @@ use mathlib.Core.Bool.{cond}
 use mathlib.Core.Logic.{⊎-elim}
 use Prim.Native.Nat.{ℕ, zero, suc, _+_, _-_, _*_, _/_, _≤_, _<_}
 use native.Mathlib.Nat.{add-suc}
+use native.Mathlib.Numerals.{add-one}
 use native.Mathlib.Omega.{arith}
 use borrow.Author.Tests.{le-leb, lt-leb}
 use Rattle.window.specs.Window.{fold, behind, over, mean}
@@ -39,7 +40,16 @@ slide g (suc m) y =
     let e : g (y + 1 + m) ≡ g (y + suc m) = ap g (omega arith) in
     omega (arith, slide g m y, e)
 
-fold-le : (g : ℕ → ℕ) (m : ℕ) → ((x : ℕ) → g x < 256) → fold _+_ 0 m g ≤ 255 * m
+-- one place more
+pub fold-more : (g : ℕ → ℕ) (m : ℕ) → fold _+_ 0 (m + 1) g ≡ fold _+_ 0 m g + g m
+unfolding fold
+fold-more g m = rw (add-one m)
+
+pub fold-none : (g : ℕ → ℕ) → fold _+_ 0 0 g ≡ 0
+unfolding fold
+fold-none g = refl
+
+pub fold-le : (g : ℕ → ℕ) (m : ℕ) → ((x : ℕ) → g x < 256) → fold _+_ 0 m g ≤ 255 * m
 unfolding fold
 fold-le g zero h = omega arith
 fold-le g (suc m) h = omega (arith, fold-le g m h, h m)
