@@ -1,2 +1,6 @@
 -- Laws that the proofs share.
 pub mod Ranges
+pub mod Folds
+pub mod Cuts
+pub mod Edges
+pub mod Lines
