@@ -4,3 +4,5 @@ pub mod Folds
 pub mod Cuts
 pub mod Edges
 pub mod Lines
+pub mod Steps
+pub mod Growing

@@ -26,6 +26,11 @@ unfoldable pub edged : Extreme → ℕ → ℕ → ℕ → ℕ → ℕ → ℕ
 edged Least back ahead count v x = cond (leb back v) (cond (ltb (v + ahead) count) x 0) 0
 edged Largest back ahead count v x = x
 
+-- the same of byte i of line v of the count lines at o in d
+unfoldable pub edgedLine : Extreme → ℕ → ℕ → List ℕ → ℕ → ℕ → ℕ → ℕ → ℕ → ℕ
+unfolding edged
+edgedLine op back ahead d o n count v i = edged op back ahead count v (byteAt d o n v i)
+
 -- byte i of the lines s before and t after v, put together
 abbrev pub paired : (ℕ → ℕ → ℕ) → List ℕ → ℕ → ℕ → ℕ → ℕ → ℕ → ℕ → ℕ → ℕ
 paired op d from n count s t v i = op (byteAt d from n (earlier s v) i) (byteAt d from n (later t count v) i)
