@@ -13,15 +13,15 @@ use Rattle.window.proofs.Store.{lt-or-le}
 use Rattle.raster_morph.specs.declared.Extreme.{Extreme}
 use Rattle.raster_morph.specs.declared.Extreme.the-variants.{Least, Largest}
 use Rattle.raster_morph.specs.Operation.{operation, start, extreme}
-use Rattle.raster_morph.specs.Place.{Off, Worked}
+use Rattle.raster_morph.specs.Ranges.{Outside, PingPong}
 use Rattle.raster_morph.specs.Growth.{cut, earlier, later, paired, windows, edged, edgedLine}
 use Rattle.raster_morph.proofs.Cuts.{earlier-is, later-is, cut-one, cut-grow, cut-limit}
 use Rattle.raster_morph.proofs.Edges.{lattice, start-byte, extreme-cut}
 use Rattle.raster_morph.proofs.Lines.{line-in, lined-off}
 
 -- each line is its own window
-pub worked-start : (op : Extreme) (a b n count : ℕ) (d : List ℕ) → ((j : ℕ) → getD d j 0 < 256) → Worked (windows op d a n count 0 0) a b n count a d d
-worked-start op a b n count d bytes = record {
+pub pingpong-start : (op : Extreme) (a b n count : ℕ) (d : List ℕ) → ((j : ℕ) → getD d j 0 < 256) → PingPong (windows op d a n count 0 0) a b n count a d d
+pingpong-start op a b n count d bytes = record {
   place = inl refl;
   inside = λ v i h l. sym (cut-one (operation op) (start op) count (λ w. byteAt d a n w i) v h (start-byte op (byteAt d a n v i) (bytes (a + v * n + i))));
   outside = λ j p q. refl;
@@ -35,10 +35,10 @@ later-in : (t count v : ℕ) → v < count → later t count v < count
 later-in t count v h = ⊎-elim (λ (e : (v + t < count) × (later t count v ≡ v + t)). omega arith) (λ (e : (count ≤ v + t) × (later t count v ≡ v)). omega arith) (later-is t count v)
 
 -- windows longer by s and t, at the other place
-pub worked-grow : (op : Extreme) (a n count p q s t here there : ℕ) (d d₁ d₂ : List ℕ) → s ≤ p + 1 → t ≤ q + 1 → s + t ≤ p + q + 1
-    → Worked (windows op d a n count p q) here there n count here d d₁ → Lined (paired (operation op) d₁ here n count s t) there n count d₁ d₂
-    → Worked (windows op d a n count (p + s) (q + t)) there here n count there d d₂
-worked-grow op a n count p q s t here there d d₁ d₂ hs ht both W L = record {
+pub pingpong-grow : (op : Extreme) (a n count p q s t here there : ℕ) (d d₁ d₂ : List ℕ) → s ≤ p + 1 → t ≤ q + 1 → s + t ≤ p + q + 1
+    → PingPong (windows op d a n count p q) here there n count here d d₁ → Lined (paired (operation op) d₁ here n count s t) there n count d₁ d₂
+    → PingPong (windows op d a n count (p + s) (q + t)) there here n count there d d₂
+pingpong-grow op a n count p q s t here there d d₁ d₂ hs ht both W L = record {
   place = inl refl;
   inside = λ v i h l. L .inside v i h l
       ∙ ap₂ (operation op) (W .inside (earlier s v) i (earlier-in s count v h) l) (W .inside (later t count v) i (later-in t count v h) l)
@@ -48,9 +48,9 @@ worked-grow op a n count p q s t here there d d₁ d₂ hs ht both W L = record 
 }
 
 -- the two places under their own names
-pub worked-place : (f : ℕ → ℕ → ℕ) (a b n count here there : ℕ) (d d′ : List ℕ) → ((here ≡ a) × (there ≡ b)) ⊎ ((here ≡ b) × (there ≡ a))
-    → Worked f here there n count here d d′ → Worked f a b n count here d d′
-worked-place f a b n count here there d d′ p W = record {
+pub pingpong-place : (f : ℕ → ℕ → ℕ) (a b n count here there : ℕ) (d d′ : List ℕ) → ((here ≡ a) × (there ≡ b)) ⊎ ((here ≡ b) × (there ≡ a))
+    → PingPong f here there n count here d d′ → PingPong f a b n count here d d′
+pingpong-place f a b n count here there d d′ p W = record {
   place = ⊎-elim (λ (e : (here ≡ a) × (there ≡ b)). inl (e .0)) (λ (e : (here ≡ b) × (there ≡ a)). inr (e .0)) p;
   inside = W .inside;
   outside = λ j k m. ⊎-elim
@@ -60,11 +60,11 @@ worked-place f a b n count here there d d′ p W = record {
 }
 
 -- the windows of the definition
-pub worked-edged : (op : Extreme) (a b n count back ahead r : ℕ) (d d₁ d₂ : List ℕ)
-    → Worked (windows op d a n count (min back (count - 1)) (min ahead (count - 1))) a b n count r d d₁ → Lined (edgedLine op back ahead d₁ r n count) r n count d₁ d₂
-    → Worked (λ v i. extreme op back ahead (column d a n count i) v) a b n count r d d₂
+pub pingpong-edged : (op : Extreme) (a b n count back ahead r : ℕ) (d d₁ d₂ : List ℕ)
+    → PingPong (windows op d a n count (min back (count - 1)) (min ahead (count - 1))) a b n count r d d₁ → Lined (edgedLine op back ahead d₁ r n count) r n count d₁ d₂
+    → PingPong (λ v i. extreme op back ahead (column d a n count i) v) a b n count r d d₂
 unfolding column edgedLine
-worked-edged op a b n count back ahead r d d₁ d₂ W L = record {
+pingpong-edged op a b n count back ahead r d d₁ d₂ W L = record {
   place = W .place;
   inside = λ v i h l. L .inside v i h l
       ∙ ap (edged op back ahead count v) (W .inside v i h l ∙ cut-limit (operation op) (start op) back ahead count (λ w. byteAt d a n w i) v h)

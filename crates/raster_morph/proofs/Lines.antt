@@ -9,7 +9,7 @@ use lib.ListN.{length, getD}
 use Rattle.window.specs.Store.{Filled, Lined, byteAt}
 use Rattle.window.proofs.Store.{lt-or-le}
 use Rattle.raster_morph.specs.Operation.{shifted}
-use Rattle.raster_morph.specs.Place.{Off, Apart}
+use Rattle.raster_morph.specs.Ranges.{Outside, Apart}
 use Rattle.raster_morph.specs.Growth.{earlier, later, paired}
 use Rattle.raster_morph.proofs.Cuts.{earlier-is, later-is}
 
@@ -42,7 +42,7 @@ lined-run f g o n x r d d₁ d₂ L F same = record {
 }
 
 -- the bytes outside of the lines
-pub lined-off : (f : ℕ → ℕ → ℕ) (o n count : ℕ) (d d′ : List ℕ) (j : ℕ) → Lined f o n count d d′ → Off o (count * n) j → getD d′ j 0 ≡ getD d j 0
+pub lined-off : (f : ℕ → ℕ → ℕ) (o n count : ℕ) (d d′ : List ℕ) (j : ℕ) → Lined f o n count d d′ → Outside o (count * n) j → getD d′ j 0 ≡ getD d j 0
 lined-off f o n count d d′ j L = ⊎-elim (L .before j) (L .after j)
 
 -- The lines x up to x + r at `to`, each from the lines w and w + u at `from` counted on with it, whose bytes are stored as one range.

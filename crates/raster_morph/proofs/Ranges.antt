@@ -8,18 +8,18 @@ use lib.ListN.{length, getD, set}
 use Rattle.window.specs.Store.{Filled}
 use Rattle.window.proofs.Store.{filled-none, filled-more}
 use Rattle.raster_morph.specs.Operation.{shifted}
-use Rattle.raster_morph.specs.Place.{Off, Apart}
+use Rattle.raster_morph.specs.Ranges.{Outside, Apart}
 
 -- nothing is stored yet
 pub filled-start : (f : ℕ → ℕ) (from to : ℕ) (d : List ℕ) → to ≡ from → Filled f from to d d
 filled-start f from to d e = rw e (filled-none f from d)
 
 -- what lies outside the range that was stored
-pub filled-off : (f : ℕ → ℕ) (from to : ℕ) (d d′ : List ℕ) (j : ℕ) → Filled f from to d d′ → Off from (to - from) j → from ≤ to → getD d′ j 0 ≡ getD d j 0
+pub filled-off : (f : ℕ → ℕ) (from to : ℕ) (d d′ : List ℕ) (j : ℕ) → Filled f from to d d′ → Outside from (to - from) j → from ≤ to → getD d′ j 0 ≡ getD d j 0
 filled-off f from to d d′ j F off l = ⊎-elim (F .before j) (λ h. F .after j (omega arith)) off
 
 -- an index of the first range lies outside of the second
-pub apart-off : (o m p k j : ℕ) → Apart o m p k → o ≤ j → j < o + m → Off p k j
+pub apart-off : (o m p k j : ℕ) → Apart o m p k → o ≤ j → j < o + m → Outside p k j
 apart-off o m p k j apart l h = ⊎-elim (λ g. inl (omega arith)) (λ g. inr (omega arith)) apart
 
 -- one store more of a fold

@@ -5,7 +5,7 @@ ghost use lib.ListN.{length, getD};
 ghost use Rattle.window.specs.Store.{Filled, Lined};
 ghost use Rattle.window.specs.Window.{column};
 ghost use Rattle.raster_morph.specs.Operation.{operation, start, extreme, shifted};
-ghost use Rattle.raster_morph.specs.Place.{Apart, Worked};
+ghost use Rattle.raster_morph.specs.Ranges.{Apart, PingPong};
 ghost use Rattle.raster_morph.specs.Growth.{paired, windows, edgedLine};
 
 // Erode takes the least, dilate the largest.
@@ -32,7 +32,7 @@ fn larger(a: usize, b: usize) -> usize
     if a < b { b } else { a }
 }
 
-fn pick(op: Extreme, x: u8, y: u8) -> u8
+fn extreme_byte(op: Extreme, x: u8, y: u8) -> u8
     ensures { λ r. ⌜ r ≡ operation op x y ⌝ }
 {
     match op {
@@ -47,7 +47,7 @@ pub fn fold_shifted(op: Extreme, buf: &mut [u8], from: usize, to: usize, m: usiz
     ensures { λ _. ⌜ Filled (shifted (operation op) (now (buf .entry)) from shift to) to (to + m) (now (buf .entry)) (now (buf .exit)) ⌝ }
 {
     for i in 0..m {
-        buf[to + i] = pick(op, buf[from + i], buf[from + shift + i]);
+        buf[to + i] = extreme_byte(op, buf[from + i], buf[from + shift + i]);
     }
 }
 
@@ -94,7 +94,7 @@ fn grow_windows(
     ahead: usize,
 ) -> usize
     requires { ⌜ (a + count * n ≤ length (now buf)) × (b + count * n ≤ length (now buf)) × Apart a (count * n) b (count * n) × (back < count) × (ahead < count) × (back ≤ 64) × (ahead ≤ 64) ⌝ }
-    ensures { λ r. ⌜ Worked (windows op (now (buf .entry)) a n count back ahead) a b n count r (now (buf .entry)) (now (buf .exit)) ⌝ }
+    ensures { λ r. ⌜ PingPong (windows op (now (buf .entry)) a n count back ahead) a b n count r (now (buf .entry)) (now (buf .exit)) ⌝ }
 {
     let mut here = a;
     let mut there = b;
@@ -156,7 +156,7 @@ pub fn extreme_lines(
     ahead: usize,
 ) -> usize
     requires { ⌜ (a + count * n ≤ length (now buf)) × (b + count * n ≤ length (now buf)) × Apart a (count * n) b (count * n) × (0 < count) × (back ≤ 64) × (ahead ≤ 64) ⌝ }
-    ensures { λ r. ⌜ Worked (λ v i. extreme op back ahead (column (now (buf .entry)) a n count i) v) a b n count r (now (buf .entry)) (now (buf .exit)) ⌝ }
+    ensures { λ r. ⌜ PingPong (λ v i. extreme op back ahead (column (now (buf .entry)) a n count i) v) a b n count r (now (buf .entry)) (now (buf .exit)) ⌝ }
 {
     let last = count - 1;
     let here = grow_windows(

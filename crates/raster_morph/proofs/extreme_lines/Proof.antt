@@ -4,7 +4,7 @@ use mathlib.Core.Path.{_≡_}
 use mathlib.Core.Logic.{⊎-elim}
 use native.Mathlib.Omega.{arith}
 use borrow.Author.Needs.{needs}
-use Rattle.raster_morph.proofs.Growing.{worked-edged}
+use Rattle.raster_morph.proofs.Growing.{pingpong-edged}
 use Rattle.raster_morph.proofs.extreme_lines.Statement.{statement}
 use Rattle.raster_morph.proofs.extreme_lines.Tie as tie
 
@@ -32,7 +32,7 @@ returns : tie.Need-returns
 returns c =
     let grown = c .before .before .before .before .before .before in
     let limits = grown .before in
-    worked-edged _ _ _ _ _ _ _ _ _ _ _ (rw (limits .before .lesser .ensures, limits .lesser2 .ensures) at (grown .grow-windows .ensures)) (c .before .before .finish-edges .ensures)
+    pingpong-edged _ _ _ _ _ _ _ _ _ _ _ (rw (limits .before .lesser .ensures, limits .lesser2 .ensures) at (grown .grow-windows .ensures)) (c .before .before .finish-edges .ensures)
 
 pub extreme-lines-spec : {M : Type 1} → statement M
 extreme-lines-spec =

@@ -18,23 +18,23 @@ abbrev μ-loop : tie.MeasureT-loop
 loop-holds : tie.Need-loop-holds Inv-loop μ-loop
 loop-holds c = (omega arith, filled-start _ _ _ _ (omega arith))
 
-add-pick : tie.Need-add-pick Inv-loop μ-loop
-add-pick c = search needs
+add-extreme-byte : tie.Need-add-extreme-byte Inv-loop μ-loop
+add-extreme-byte c = search needs
 
-slice-read-pick : tie.Need-slice-read-pick Inv-loop μ-loop
-slice-read-pick c = search needs
+slice-read-extreme-byte : tie.Need-slice-read-extreme-byte Inv-loop μ-loop
+slice-read-extreme-byte c = search needs
 
-add-pick-2 : tie.Need-add-pick-2 Inv-loop μ-loop
-add-pick-2 c = search needs
+add-extreme-byte-2 : tie.Need-add-extreme-byte-2 Inv-loop μ-loop
+add-extreme-byte-2 c = search needs
 
-add-pick-3 : tie.Need-add-pick-3 Inv-loop μ-loop
-add-pick-3 c = search needs
+add-extreme-byte-3 : tie.Need-add-extreme-byte-3 Inv-loop μ-loop
+add-extreme-byte-3 c = search needs
 
-slice-read-pick-2 : tie.Need-slice-read-pick-2 Inv-loop μ-loop
-slice-read-pick-2 c = search needs
+slice-read-extreme-byte-2 : tie.Need-slice-read-extreme-byte-2 Inv-loop μ-loop
+slice-read-extreme-byte-2 c = search needs
 
-pick-requires : tie.Need-pick-requires Inv-loop μ-loop
-pick-requires c κs = tt
+extreme-byte-requires : tie.Need-extreme-byte-requires Inv-loop μ-loop
+extreme-byte-requires c κs = tt
 
 add-buf : tie.Need-add-buf Inv-loop μ-loop
 add-buf c = search needs
@@ -53,7 +53,7 @@ loop-again c =
     let turn = c .before .before .before in
     let L = turn .before .loop in
     let begin = turn .before .before .before in
-    (omega arith, shifted-more (operation (begin .args .op)) _ _ _ _ _ _ _ _ (begin .pre .2) (turn .loop-test .taken) (begin .pre .1) (L .inv .1) (c .pick .ensures))
+    (omega arith, shifted-more (operation (begin .args .op)) _ _ _ _ _ _ _ _ (begin .pre .2) (turn .loop-test .taken) (begin .pre .1) (L .inv .1) (c .extreme-byte .ensures))
 
 same-length : tie.Need-same-length Inv-loop μ-loop
 same-length c = c .before .loop .inv .1 .long
@@ -70,12 +70,12 @@ fold-shifted-spec =
     Inv-loop
     μ-loop
     loop-holds
-    add-pick
-    slice-read-pick
-    add-pick-2
-    add-pick-3
-    slice-read-pick-2
-    pick-requires
+    add-extreme-byte
+    slice-read-extreme-byte
+    add-extreme-byte-2
+    add-extreme-byte-3
+    slice-read-extreme-byte-2
+    extreme-byte-requires
     add-buf
     slice-write-buf
     add-i

@@ -8,15 +8,15 @@ use native.Mathlib.Omega.{arith}
 use lib.ListN.{length}
 use borrow.Author.Needs.{needs}
 use Rattle.raster_morph.specs.declared.Extreme.{Extreme}
-use Rattle.raster_morph.specs.Place.{Apart, Worked}
+use Rattle.raster_morph.specs.Ranges.{Apart, PingPong}
 use Rattle.raster_morph.specs.Growth.{windows}
 use Rattle.raster_morph.proofs.Steps.{Step, step}
-use Rattle.raster_morph.proofs.Growing.{worked-start, worked-grow, worked-place}
+use Rattle.raster_morph.proofs.Growing.{pingpong-start, pingpong-grow, pingpong-place}
 use Rattle.raster_morph.proofs.grow_windows.Statement.{statement}
 use Rattle.raster_morph.proofs.grow_windows.Tie as tie
 
 record Standing (op : Extreme) (a b n count back ahead here there p q : ℕ) (buf₀ buf : List ℕ) : Type 0 where
-  lines : Worked (windows op buf₀ a n count p q) here there n count here buf₀ buf
+  lines : PingPong (windows op buf₀ a n count p q) here there n count here buf₀ buf
   place : ((here ≡ a) × (there ≡ b)) ⊎ ((here ≡ b) × (there ≡ a))
   low : p ≤ back
   high : q ≤ ahead
@@ -32,7 +32,7 @@ abbrev μ-loop : tie.MeasureT-loop
 
 loop-holds : tie.Need-loop-holds Inv-loop μ-loop
 loop-holds c = record {
-  lines = worked-start _ _ _ _ _ (c .before .args .buf .now) (λ j. omega (arith, c .slice-known .given j));
+  lines = pingpong-start _ _ _ _ _ (c .before .args .buf .now) (λ j. omega (arith, c .slice-known .given j));
   place = inl (refl, refl);
   low = omega arith;
   high = omega arith;
@@ -107,7 +107,7 @@ loop-again c =
     let T = turn (c .before .before .before .before) in
     let I = c .before .before .before .before .before .before .before .before .before .loop .inv in
     record {
-      lines = worked-grow _ _ _ _ _ _ _ _ _ _ _ _ _ (T .near) (T .far) (T .both) (I .lines) (c .before .before .fold-lines .ensures);
+      lines = pingpong-grow _ _ _ _ _ _ _ _ _ _ _ _ _ (T .near) (T .far) (T .both) (I .lines) (c .before .before .fold-lines .ensures);
       place = ⊎-elim (λ e. inr (e .1, e .0)) (λ e. inl (e .1, e .0)) (I .place);
       low = T .low;
       high = T .high;
@@ -125,7 +125,7 @@ returns c =
     let a = c .before .before .before .args in
     let e : c .before .loop .p ≡ a .back = omega (arith, I .low, I .high) in
     let h : c .before .loop .q ≡ a .ahead = omega (arith, I .low, I .high) in
-    rw (← e, ← h) (worked-place _ _ _ _ _ _ _ _ _ (I .place) (I .lines))
+    rw (← e, ← h) (pingpong-place _ _ _ _ _ _ _ _ _ (I .place) (I .lines))
 
 pub grow-windows-spec : {M : Type 1} → statement M
 grow-windows-spec =

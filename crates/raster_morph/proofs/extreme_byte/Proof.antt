@@ -1,8 +1,8 @@
--- `raster_morph::pick` meets its contract: by the two variants. Assumes nothing.
+-- `raster_morph::extreme_byte` meets its contract: by the two variants. Assumes nothing.
 use borrow.Author.Needs.{needs}
 use Rattle.raster_morph.specs.Operation.{operation}
-use Rattle.raster_morph.proofs.pick.Statement.{statement}
-use Rattle.raster_morph.proofs.pick.Tie as tie
+use Rattle.raster_morph.proofs.extreme_byte.Statement.{statement}
+use Rattle.raster_morph.proofs.extreme_byte.Tie as tie
 
 enum-told : tie.Need-enum-told
 enum-told c = search needs
@@ -24,7 +24,7 @@ returns-2 : tie.Need-returns-2
 unfolding operation
 returns-2 c = rw (c .before .enum-told2 .given .1) (c .larger-byte .ensures)
 
-pub pick-spec : {M : Type 1} → statement M
-pick-spec =
+pub extreme-byte-spec : {M : Type 1} → statement M
+extreme-byte-spec =
     tie.close
     (tie.spec enum-told lesser-byte-requires enum-told-2 larger-byte-requires returns returns-2)
