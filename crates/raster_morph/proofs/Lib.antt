@@ -1,0 +1,8 @@
+-- Laws that the proofs share.
+pub mod Ranges
+pub mod Folds
+pub mod Cuts
+pub mod Edges
+pub mod Lines
+pub mod Steps
+pub mod Growing

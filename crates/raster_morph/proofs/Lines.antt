@@ -1,0 +1,97 @@
+-- Laws of lines in a buffer: a run of lines more, stored from lines that lie apart from it. Assumes nothing.
+use mathlib.Core.Path.{_≡_, refl, sym, ap, ap₂, _∙_}
+use mathlib.Core.List.{List}
+use mathlib.Core.Logic.{_⊎_, inl, inr, ⊎-elim}
+use Prim.Native.Nat.{ℕ, _+_, _-_, _*_, _≤_, _<_}
+use native.Mathlib.Nat.{mul-le-mul-right}
+use native.Mathlib.Omega.{arith}
+use lib.ListN.{length, getD}
+use Rattle.window.specs.Store.{Filled, Lined, byteAt}
+use Rattle.window.proofs.Store.{lt-or-le}
+use Rattle.raster_morph.specs.Operation.{shifted}
+use Rattle.raster_morph.specs.Ranges.{Outside, Apart}
+use Rattle.raster_morph.specs.Growth.{earlier, later, paired}
+use Rattle.raster_morph.proofs.Cuts.{earlier-is, later-is}
+
+-- a byte of a line lies among the bytes of the lines
+pub line-in : (n count v i : ℕ) → v < count → i < n → v * n + i < count * n
+line-in n count v i h l = omega (arith, mul-le-mul-right n h)
+
+pub lines-in : (n count v : ℕ) → v ≤ count → v * n ≤ count * n
+lines-in n count v h = mul-le-mul-right n h
+
+pub lined-none : (f : ℕ → ℕ → ℕ) (o n : ℕ) (d : List ℕ) → Lined f o n 0 d d
+lined-none f o n d = record { inside = λ v i h l. absurd (omega arith); before = λ i h. refl; after = λ i h. refl; long = refl }
+
+-- r lines more, the bytes of which were stored as one range
+pub lined-run : (f : ℕ → ℕ → ℕ) (g : ℕ → ℕ) (o n x r : ℕ) (d d₁ d₂ : List ℕ) → Lined f o n x d d₁ → Filled g (o + x * n) (o + x * n + r * n) d₁ d₂
+    → ((j i : ℕ) → j < r → i < n → g (o + x * n + (j * n + i)) ≡ f (x + j) i) → Lined f o n (x + r) d d₂
+lined-run f g o n x r d d₁ d₂ L F same = record {
+  inside = λ v i h l. ⊎-elim
+      (λ g. F .before (o + v * n + i) (omega (arith, line-in n x v i g l)) ∙ L .inside v i g l)
+      (λ g.
+      let j = v - x in
+      let q : v ≡ x + j = omega arith in
+      let e : o + (x + j) * n + i ≡ o + x * n + (j * n + i) = omega arith in
+      let k : j < r = omega arith in
+      rw q (ap (λ (z : ℕ). getD d₂ z 0) e ∙ F .inside (o + x * n + (j * n + i)) (omega arith) (omega (arith, line-in n r j i k l)) ∙ same j i k l))
+      (lt-or-le v x);
+  before = λ i h. F .before i (omega arith) ∙ L .before i h;
+  after = λ i h. F .after i (omega arith) ∙ L .after i (omega arith);
+  long = F .long ∙ L .long;
+}
+
+-- the bytes outside of the lines
+pub lined-off : (f : ℕ → ℕ → ℕ) (o n count : ℕ) (d d′ : List ℕ) (j : ℕ) → Lined f o n count d d′ → Outside o (count * n) j → getD d′ j 0 ≡ getD d j 0
+lined-off f o n count d d′ j L = ⊎-elim (L .before j) (L .after j)
+
+-- The lines x up to x + r at `to`, each from the lines w and w + u at `from` counted on with it, whose bytes are stored as one range.
+module _ (op : ℕ → ℕ → ℕ) (from to n count s t x r w u : ℕ) (d d₁ d₂ : List ℕ) (apart : Apart from (count * n) to (count * n)) (fits : x + r ≤ count) (reads : w + u + r ≤ count)
+    (near : (j : ℕ) → j < r → earlier s (x + j) ≡ w + j) (far : (j : ℕ) → j < r → later t count (x + j) ≡ w + u + j) (L : Lined (paired op d from n count s t) to n x d d₁) where
+  source : (v i : ℕ) → v < count → i < n → byteAt d₁ from n v i ≡ byteAt d from n v i
+  source v i h l =
+      let k = line-in n count v i h l in
+      let p : x * n ≤ count * n = mul-le-mul-right n (omega arith) in
+      lined-off _ _ _ _ _ _ (from + v * n + i) L (⊎-elim (λ g. inl (omega (arith, k))) (λ g. inr (omega (arith, p))) apart)
+
+  pub run-more : (at first shift size : ℕ) → at ≡ to + x * n → first ≡ from + w * n → shift ≡ u * n → size ≡ r * n
+      → Filled (shifted op d₁ first shift at) at (at + size) d₁ d₂ → Lined (paired op d from n count s t) to n (x + r) d d₂
+  run-more at first shift size e₁ e₂ e₃ e₄ F = lined-run _ _ to n x r d d₁ d₂ L (rw (e₁, e₂, e₃, e₄) at F)
+      (λ j i h l.
+      let k : to + x * n + (j * n + i) - (to + x * n) ≡ j * n + i = omega arith in
+      let a : from + w * n + (j * n + i) ≡ from + (w + j) * n + i = omega arith in
+      let b : from + w * n + u * n + (j * n + i) ≡ from + (w + u + j) * n + i = omega arith in
+      rw (k, a, b, near j h, far j h) (ap₂ op (source (w + j) i (omega arith) l) (source (w + u + j) i (omega arith) l)))
+
+-- Three runs make all of the lines: those with no line s before, those with both, those with no line t after.
+module _ (op : ℕ → ℕ → ℕ) (from to n count s t : ℕ) (d d₁ d₂ d₃ : List ℕ) (apart : Apart from (count * n) to (count * n)) (fits : s + t ≤ count) where
+  abbrev middle : ℕ
+  middle = count * n - s * n - t * n
+
+  near-self : (j : ℕ) → j < s → earlier s j ≡ j
+  near-self j h = ⊎-elim (λ (e : (j < s) × (earlier s j ≡ j)). e .1) (λ (e : (s ≤ j) × (earlier s j ≡ j - s)). absurd (omega arith)) (earlier-is s j)
+
+  near-before : (v j : ℕ) → v ≡ s + j → earlier s v ≡ j
+  near-before v j q = ⊎-elim (λ (e : (v < s) × (earlier s v ≡ v)). absurd (omega arith)) (λ (e : (s ≤ v) × (earlier s v ≡ v - s)). omega arith) (earlier-is s v)
+
+  far-after : (v : ℕ) → v + t < count → later t count v ≡ v + t
+  far-after v h = ⊎-elim (λ (e : (v + t < count) × (later t count v ≡ v + t)). e .1) (λ (e : (count ≤ v + t) × (later t count v ≡ v)). absurd (omega arith)) (later-is t count v)
+
+  far-self : (v : ℕ) → count ≤ v + t → later t count v ≡ v
+  far-self v h = ⊎-elim (λ (e : (v + t < count) × (later t count v ≡ v + t)). absurd (omega arith)) (λ (e : (count ≤ v + t) × (later t count v ≡ v)). e .1) (later-is t count v)
+
+  pub three-runs : Filled (shifted op d from (t * n) to) to (to + s * n) d d₁
+      → Filled (shifted op d₁ from (s * n + t * n) (to + s * n)) (to + s * n) (to + s * n + middle) d₁ d₂
+      → Filled (shifted op d₂ (from + middle) (s * n) (to + s * n + middle)) (to + s * n + middle) (to + s * n + middle + t * n) d₂ d₃
+      → Lined (paired op d from n count s t) to n count d d₃
+  three-runs F₁ F₂ F₃ =
+      let m = count - s - t in
+      let size : middle ≡ m * n = let q : count ≡ s + m + t = omega arith in omega (arith, ap (λ (k : ℕ). k * n) q) in
+      let L₁ = run-more op from to n count s t 0 s 0 t d d d₁ apart (omega arith) (omega arith)
+      (λ j h. near-self (0 + j) (omega arith)) (λ j h. omega (arith, far-after (0 + j) (omega arith))) (lined-none _ _ _ _) to from (t * n) (s * n) (omega arith) (omega arith) refl refl F₁ in
+      let L₂ = run-more op from to n count s t (0 + s) m 0 (s + t) d d₁ d₂ apart (omega arith) (omega arith)
+      (λ j h. near-before (0 + s + j) (0 + j) (omega arith)) (λ j h. omega (arith, far-after (0 + s + j) (omega arith))) L₁ (to + s * n) from (s * n + t * n) middle (omega arith) (omega arith) (omega arith) size F₂ in
+      let L₃ = run-more op from to n count s t (0 + s + m) t m s d d₂ d₃ apart (omega arith) (omega arith)
+      (λ j h. near-before (0 + s + m + j) (m + j) (omega arith)) (λ j h. omega (arith, far-self (0 + s + m + j) (omega arith))) L₂ (to + s * n + middle) (from + middle) (s * n) (t * n) (omega (arith, size)) (omega (arith, size)) refl refl F₃ in
+      let q : 0 + s + m + t ≡ count = omega arith in
+      rw q at L₃

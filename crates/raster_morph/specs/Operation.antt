@@ -1,0 +1,26 @@
+-- "Erode and dilate": the smallest or largest over the window. Reads outside the lines give 0, "transparent black".
+-- Assumes nothing.
+use Prim.Native.Nat.{ℕ, _+_, _-_, min, max}
+use mathlib.Core.List.{List}
+use lib.ListN.{getD}
+use Rattle.window.specs.Window.{over}
+use Rattle.raster_morph.specs.declared.Extreme.{Extreme}
+use Rattle.raster_morph.specs.declared.Extreme.the-variants.{Least, Largest}
+
+-- the smaller or the larger of two
+unfoldable pub operation : Extreme → ℕ → ℕ → ℕ
+operation Least = min
+operation Largest = max
+
+-- the byte that every byte replaces
+unfoldable pub start : Extreme → ℕ
+start Least = 255
+start Largest = 0
+
+-- the smallest or largest over x - back .. x + ahead
+abbrev pub extreme : Extreme → ℕ → ℕ → (ℕ → ℕ) → ℕ → ℕ
+extreme op back ahead f x = over (operation op) (start op) back ahead f x
+
+-- for the index j = to + i: the byte at from + i and the byte shift after it, put together
+abbrev pub shifted : (ℕ → ℕ → ℕ) → List ℕ → ℕ → ℕ → ℕ → ℕ → ℕ
+shifted op d from shift to j = op (getD d (from + (j - to)) 0) (getD d (from + shift + (j - to)) 0)

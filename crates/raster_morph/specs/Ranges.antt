@@ -1,0 +1,24 @@
+-- Two ranges of one buffer, and what work that goes back and forth between them leaves.
+-- Assumes nothing.
+use Prim.Native.Nat.{ℕ, _+_, _*_, _≤_, _<_}
+use mathlib.Core.Path.{_≡_}
+use mathlib.Core.Logic.{_⊎_}
+use mathlib.Core.List.{List}
+use lib.ListN.{length, getD}
+use Rattle.window.specs.Store.{byteAt}
+
+-- the index j lies outside the m bytes from o on
+abbrev pub Outside : ℕ → ℕ → ℕ → Type 0
+Outside o m j = (j < o) ⊎ (o + m ≤ j)
+
+-- the m bytes from o on and the k bytes from p on have none in common
+abbrev pub Apart : ℕ → ℕ → ℕ → ℕ → Type 0
+Apart o m p k = (o + m ≤ p) ⊎ (p + k ≤ o)
+
+-- f v i stands as byte i of line v, for count lines of n bytes from the index r on, which is a or b; the count lines at the other
+-- of the two may hold anything, and every other byte of d′ is that of d
+pub record PingPong (f : ℕ → ℕ → ℕ) (a b n count r : ℕ) (d d′ : List ℕ) : Type 0 where
+  pub place : (r ≡ a) ⊎ (r ≡ b)
+  pub inside : (v i : ℕ) → v < count → i < n → byteAt d′ r n v i ≡ f v i
+  pub outside : (j : ℕ) → Outside a (count * n) j → Outside b (count * n) j → getD d′ j 0 ≡ getD d j 0
+  pub long : length d′ ≡ length d
