@@ -4,3 +4,4 @@ pub mod Words
 pub mod Parts
 pub mod Moving
 pub mod Blending
+pub mod Scanning

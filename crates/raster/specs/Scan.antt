@@ -1,4 +1,4 @@
--- Check 14: "the scan stops at the first bad pixel". Assumes nothing.
+-- Check 14: "the scan stops at the first bad pixel of the rows, counted from 0 in its buffer". Assumes nothing.
 use Prim.Native.Nat.{ℕ, zero, suc, _*_}
 use mathlib.Core.Bool.{Bool, true, false, _&&_}
 use mathlib.Core.List.{List}
@@ -12,15 +12,13 @@ use Rattle.raster.specs.declared.scan.Found.the-variants.{At, Nothing}
 abbrev pub valid? : Pixel → Bool
 valid? p = leb (p .r) (p .a) && leb (p .g) (p .a) && leb (p .b) (p .a)
 
-abbrev pub unless : Bool → Found → Found
-unless true f = Nothing
-unless false f = f
-
-abbrev pub orElse : Found → Found → Found
-orElse (At p) f = At p
-orElse Nothing f = f
+-- what was found, and else the pixel n unless it is valid
+abbrev pub orElse : Found → Bool → ℕ → Found
+orElse (At p) ok n = At p
+orElse Nothing true n = Nothing
+orElse Nothing false n = At n
 
 -- the first of the first n pixels that is not valid
 unfoldable pub firstInvalid : List ℕ → ℕ → Found
 firstInvalid s zero = Nothing
-firstInvalid s (suc n) = orElse (firstInvalid s n) (unless (valid? (pixelAt s (4 * n))) (At n))
+firstInvalid s (suc n) = orElse (firstInvalid s n) (valid? (pixelAt s (4 * n))) n

@@ -1,9 +1,12 @@
 -- Helpers of the kernels: no promise to a caller cites them. Assumes nothing.
-use Prim.Native.Nat.{ℕ, _+_, _-_, _*_, _/_, _≤_, _<_}
+use Prim.Native.Nat.{ℕ, zero, suc, _+_, _-_, _*_, _/_, _≤_, _<_}
+use mathlib.Core.Bool.{Bool, true, false, _&&_}
 use mathlib.Core.List.{List}
 use lib.ListN.{getD}
 use Rattle.pixel.specs.declared.Pixel.{Pixel}
 use Rattle.pixel.specs.Alpha.{pixel}
+use Rattle.pixel.specs.Bytes.{pixelAt}
+use Rattle.raster.specs.Scan.{valid?}
 
 -- the same byte in all four channels
 abbrev pub grey : ℕ → Pixel
@@ -35,3 +38,8 @@ pub record Parted (t m from to r : ℕ) : Type 0 where
   pub high : r ≤ to
   pub before : (x : ℕ) → from ≤ x → x < r → x + m < t
   pub since : (x : ℕ) → r ≤ x → x < to → t ≤ x + m
+
+-- whether the first n pixels are valid
+unfoldable pub allValid? : List ℕ → ℕ → Bool
+allValid? s zero = true
+allValid? s (suc n) = allValid? s n && valid? (pixelAt s (4 * n))
