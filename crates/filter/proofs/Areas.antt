@@ -1,17 +1,19 @@
 -- The area of a rectangle is the number of its pixels; the count of a redraw is at most the canvas for each step. Assumes nothing.
 use Prim.Native.Nat.{ℕ, zero, suc, _+_, _-_, _*_, _≤_, _<_, min}
-use mathlib.Core.Path.{_≡_, refl, _∙_, ap, ap₂}
+use mathlib.Core.Path.{_≡_, refl, sym, _∙_, ap}
 use mathlib.Core.Bool.{Bool, true, false, cond, _&&_}
-use native.Mathlib.Nat.{mul-one, mul-zero, zero-mul, suc-mul, mul-comm, mul-le-mul, min-eq-right}
+use native.Mathlib.Nat.{zero-mul, suc-mul, mul-comm, mul-le-mul}
 use native.Mathlib.Omega.{arith}
 use lib.Dec.{ltb, leb}
 use borrow.Author.Tests.{ltb-true, ltb-false, leb-true, leb-false}
 use Rattle.window.specs.Window.{fold}
 use Rattle.filter.specs.declared.Rect.{Rect}
+use Rattle.filter.specs.declared.Input.the-variants.{Layer}
 use Rattle.filter.specs.Rect.{inside, area}
 use Rattle.filter.specs.Effect.{Effect}
 use Rattle.filter.specs.Layers.{damage, damages, count}
 use Rattle.filter.proofs.Windows.{fold-same}
+use Rattle.filter.proofs.Redraws.{damages-layer}
 
 -- the pixels of a canvas w by h that lie in r, counted one by one
 abbrev pub pixelsIn : ℕ → ℕ → Rect → ℕ
@@ -74,12 +76,22 @@ area-is-pixels w h r hw hh =
     down : (min h (r .bottom) - r .top) * (r .right - r .left) ≡ (r .right - r .left) * (r .bottom - r .top)
     down = let e : min h (r .bottom) - r .top ≡ r .bottom - r .top = omega arith in rw e (mul-comm (r .bottom - r .top) (r .right - r .left))
 
--- each rectangle is cut to the canvas
-pub count-le : (canvas : Rect) (effects : ℕ → Effect) (r : Rect) (n : ℕ) → count canvas effects r n ≤ n * area canvas
-unfolding count area
-count-le canvas effects r zero = omega arith
-count-le canvas effects r (suc n) =
-    omega (arith, count-le canvas effects r n, suc-mul n ((canvas .right - canvas .left) * (canvas .bottom - canvas .top)), one (damage canvas (effects n) (damages canvas effects r n)) (omega arith) (omega arith) (omega arith) (omega arith))
-  where
-    one : (d : Rect) → canvas .left ≤ d .left → d .right ≤ canvas .right → canvas .top ≤ d .top → d .bottom ≤ canvas .bottom → (d .right - d .left) * (d .bottom - d .top) ≤ (canvas .right - canvas .left) * (canvas .bottom - canvas .top)
-    one d a b c e = let u : d .right - d .left ≤ canvas .right - canvas .left = omega arith in let v : d .bottom - d .top ≤ canvas .bottom - canvas .top = omega arith in mul-le-mul u v
+module _ (canvas : Rect) (effects : ℕ → Effect) (r : Rect) where
+  -- "The count is the sum of the areas: .. of each step's rectangle after the cut, once for each step"
+  count-sum : (n : ℕ) → count canvas effects r n ≡ fold _+_ 0 n (λ k. area (damage canvas (effects k) (damages canvas effects r k)))
+  unfolding count fold
+  count-sum zero = refl
+  count-sum (suc n) = ap (λ (m : ℕ). m + area (damage canvas (effects n) (damages canvas effects r n))) (count-sum n)
+
+  pub count-is-areas : (n : ℕ) → count canvas effects r n ≡ fold _+_ 0 n (λ k. area (damages canvas effects r n (Layer k)))
+  count-is-areas n = count-sum n ∙ fold-same _+_ 0 n _ _ λ k l. ap area (sym (damages-layer canvas effects r k n l))
+
+  -- each rectangle is cut to the canvas
+  pub count-le : (n : ℕ) → count canvas effects r n ≤ n * area canvas
+  unfolding count area
+  count-le zero = omega arith
+  count-le (suc n) =
+      let d : Rect = damage canvas (effects n) (damages canvas effects r n) in
+      let u : d .right - d .left ≤ canvas .right - canvas .left = omega arith in
+      let v : d .bottom - d .top ≤ canvas .bottom - canvas .top = omega arith in
+      omega (arith, count-le n, suc-mul n ((canvas .right - canvas .left) * (canvas .bottom - canvas .top)), mul-le-mul u v)

@@ -15,3 +15,4 @@ pub mod Units
 pub mod Validity
 pub mod ValidLayers
 pub mod Scans
+pub mod Refusals

@@ -54,9 +54,6 @@ true-filled r e = go (ltb (r .left) (r .right)) (ltb (r .top) (r .bottom)) refl 
     go true false s t q = absurd (false≢true q)
     go true true s t q = record { left = omega arith; right = ltb-true _ _ s; top = omega arith; bottom = ltb-true _ _ t }
 
-pub in-meet : {p q : R.Rect} {x y : ℕ} → In p x y → In q x y → In (meet p q) x y
-in-meet h k = record { left = omega arith; right = omega arith; top = omega arith; bottom = omega arith }
-
 pub meet-left : (p q : R.Rect) {x y : ℕ} → In (meet p q) x y → In p x y
 meet-left p q h = record { left = omega arith; right = omega arith; top = omega arith; bottom = omega arith }
 

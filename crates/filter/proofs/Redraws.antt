@@ -13,7 +13,7 @@ use Rattle.filter.specs.Rect.{In}
 use Rattle.filter.specs.Picture.{Picture, alphaOf, patch}
 use Rattle.filter.specs.Effect.{Env, Read, Effect, AgreeWithin, Local}
 use Rattle.filter.specs.Layers.{replaced, initial, named, reached, bounds, result, damage, rendered, damages, redrawn}
-use Rattle.filter.proofs.Rects.{in?, in-meet, in-join-left, in-join-right, in-grow}
+use Rattle.filter.proofs.Rects.{in?, in-join-left, in-join-right, in-grow}
 use Rattle.filter.proofs.Patches.{patch-in, patch-out, patch-all, replaced-chain}
 
 -- F and G differ inside z only
@@ -33,7 +33,7 @@ pub result-outside : (canvas : Rect) (e : Effect) → Local e → (z : Input →
 result-outside canvas e l z F G w x y h = go (in? (bounds canvas e) x y)
   where
     go : Dec (In (bounds canvas e) x y) → result canvas e F x y ≡ result canvas e G x y
-    go (yes f) = patch-in _ _ _ f ∙ l F G x y (agree-within (e .reads) z F G w x y (λ t. h (in-meet f t))) ∙ sym (patch-in _ _ _ f)
+    go (yes f) = patch-in _ _ _ f ∙ l F G x y (agree-within (e .reads) z F G w x y (λ t. h (record { left = omega arith; right = omega arith; top = omega arith; bottom = omega arith }))) ∙ sym (patch-in _ _ _ f)
     go (no f) = patch-out _ _ _ f ∙ sym (patch-out _ _ _ f)
 
 replaced-outside : (n : ℕ) (z : Input → Rect) (F G : Env) → AgreeOutside z F G → (r : Rect) (p q : Picture) → ((x y : ℕ) → ¬ In r x y → p x y ≡ q x y) → AgreeOutside (replaced n z r) (replaced n F p) (replaced n G q)
