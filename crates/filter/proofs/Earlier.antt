@@ -75,7 +75,7 @@ replaced-before : {A : Type 0} (n m : ℕ) → n ≤ m → (E : Input → A) (a 
 unfolding replaced
 replaced-before n m l E a Source t = refl
 replaced-before n m l E a SourceAlpha t = refl
-replaced-before n m l E a (Layer k) t = replaced-other m E a k (λ e. omega (arith, ltb-true k n t))
+replaced-before n m l E a (Layer k) t = replaced-other m E a k (λ e. omega (arith, ltb-true))
 
 -- in a chain of replacements, one at each layer, what step n may read is as it stays: of layers, of redraw rectangles, of redrawn layers
 pub replaced-stays : {A : Type 0} (E : ℕ → Input → A) (a : ℕ → A) → ((m : ℕ) → E (suc m) ≡ replaced m (E m) (a m)) → (n m : ℕ) → n ≤ m → (i : Input) → allowed? n i ≡ true → E m i ≡ E n i

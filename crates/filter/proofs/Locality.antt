@@ -1,5 +1,5 @@
 -- Every kind depends on what it says it reads. Assumes nothing.
-use Prim.Native.Nat.{ℕ, _+_, _-_, _≤_}
+use Prim.Native.Nat.{ℕ, _+_, _-_, _≤_, min, max}
 use mathlib.Core.Path.{_≡_, refl, ap, ap₂}
 use mathlib.Core.Bool.{Bool, true, false, cond, _&&_}
 use mathlib.Core.List.{List, [], _∷_, map}
@@ -20,7 +20,7 @@ use Rattle.filter.specs.declared.Primitive.the-variants as P
 use Rattle.filter.specs.Picture.{Picture, Plane, each}
 use Rattle.filter.specs.Reach.{Axis, Sees, Reads, window, still, span, moved}
 use Rattle.filter.specs.Effect.{Env, AgreeWithin, Local}
-use Rattle.filter.specs.Kinds.{shifted, blurred, eroded, dilated, firstInputs, stacked, work, here, reads}
+use Rattle.filter.specs.Kinds.{shifted, blurred, eroded, dilated, firstInputs, stacked, work, radius, here, reads}
 use Rattle.filter.specs.Steps.{resolved, effectOf}
 use Rattle.filter.proofs.Windows.{Rule, Looks, over-looks, passes-looks, bothWays, both-looks}
 
@@ -73,10 +73,18 @@ stacked-local E F x y (i ∷ is) a = ap₂ merged (a .0 x y self) (map-same E F 
 pub work-local : (w h : ℕ) (k : Primitive) (E F : Env) (x y : ℕ) → AgreeWithin (reads k) E F x y → work w h k E x y ≡ work w h k F x y
 unfolding work reads blurred eroded dilated
 work-local w h (P.Flood c) E F x y a = refl
-work-local w h (P.Offset i dx dy) E F x y a = shifted-local dx dy (E i) (F i) x y λ u v s t. a .0 u v (record { across = s; down = t })
-work-local w h (P.Blur i dx dy) E F x y a = each-local (passes-looks w dx) (passes-looks h dy) (E i) (F i) x y λ u v s t. a .0 u v (record { across = s; down = t })
-work-local w h (P.Erode i rx ry) E F x y a = each-local (over-looks _ _ _ _) (over-looks _ _ _ _) (E i) (F i) x y λ u v s t. a .0 u v (record { across = s; down = t })
-work-local w h (P.Dilate i rx ry) E F x y a = each-local (over-looks _ _ _ _) (over-looks _ _ _ _) (E i) (F i) x y λ u v s t. a .0 u v (record { across = s; down = t })
+work-local w h (P.Offset i dx dy) E F x y a =
+    shifted-local dx dy (E i) (F i) x y
+    λ u v s t. a .0 u v (record { across = record { low = omega arith; high = omega arith }; down = record { low = omega arith; high = omega arith } })
+work-local w h (P.Blur i dx dy) E F x y a =
+    each-local (passes-looks w dx) (passes-looks h dy) (E i) (F i) x y
+    λ u v s t. a .0 u v (record { across = record { low = omega arith; high = omega arith }; down = record { low = omega arith; high = omega arith } })
+work-local w h (P.Erode i rx ry) E F x y a =
+    each-local (over-looks min 255 (radius rx .back) (radius rx .ahead)) (over-looks min 255 (radius ry .back) (radius ry .ahead)) (E i) (F i) x y
+    λ u v s t. a .0 u v (record { across = record { low = omega arith; high = omega arith }; down = record { low = omega arith; high = omega arith } })
+work-local w h (P.Dilate i rx ry) E F x y a =
+    each-local (over-looks max 0 (radius rx .back) (radius rx .ahead)) (over-looks max 0 (radius ry .back) (radius ry .ahead)) (E i) (F i) x y
+    λ u v s t. a .0 u v (record { across = record { low = omega arith; high = omega arith }; down = record { low = omega arith; high = omega arith } })
 work-local w h (P.Transform i m) E F x y a = ap (transformed m) (a .0 x y self)
 work-local w h (P.Luminance i) E F x y a = ap (transformed luminance) (a .0 x y self)
 work-local w h (P.Composite o i j) E F x y a = ap₂ (composited o) (a .0 x y self) (a .1 .0 x y self)
