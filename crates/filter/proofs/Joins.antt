@@ -1,14 +1,15 @@
 -- The smallest rectangle that holds two, and where the redraw rectangles lie. Assumes nothing.
-use Prim.Native.Nat.{ℕ, zero, suc, _+_, _-_, _*_, _≤_, _<_}
+use Prim.Native.Nat.{ℕ, zero, suc, _-_, _≤_, _<_}
 use mathlib.Core.Path.{_≡_, refl}
 use mathlib.Core.Bool.{Bool, true, false, cond}
 use native.Mathlib.Omega.{arith}
+use lib.Dec.{eqb}
 use Rattle.filter.specs.declared.Rect as R
 use Rattle.filter.specs.declared.Input.{Input}
-use Rattle.filter.specs.declared.Input.the-variants.{Layer}
+use Rattle.filter.specs.declared.Input.the-variants.{Source, SourceAlpha, Layer}
 use Rattle.filter.specs.Rect.{In, filled, hull, join}
 use Rattle.filter.specs.Effect.{Effect}
-use Rattle.filter.specs.Layers.{bounds, damage, damages}
+use Rattle.filter.specs.Layers.{replaced, named, bounds, damage, damages}
 use Rattle.filter.proofs.Rects.{true-filled, in-join-left, in-join-right, meet-left}
 use Rattle.filter.proofs.Redraws.{damages-layer}
 
@@ -45,16 +46,37 @@ join-least p q s cp cq = go (filled p) (filled q) refl refl
     go false b e f = cq
 
 module _ (canvas : R.Rect) where
+  -- the rectangle ends on the canvas
+  pub record Ends (r : R.Rect) : Type 0 where
+    pub right : r .right ≤ canvas .right
+    pub bottom : r .bottom ≤ canvas .bottom
+
+  named-ends : (r : R.Rect) → Ends r → (i : Input) → Ends (named r i)
+  unfolding named
+  named-ends r h Source = h
+  named-ends r h SourceAlpha = h
+  named-ends r h (Layer k) = record { right = omega arith; bottom = omega arith }
+
+  replaced-ends : (n : ℕ) (z : Input → R.Rect) (r : R.Rect) → ((i : Input) → Ends (z i)) → Ends r → (i : Input) → Ends (replaced n z r i)
+  unfolding replaced
+  replaced-ends n z r h k Source = h Source
+  replaced-ends n z r h k SourceAlpha = h SourceAlpha
+  replaced-ends n z r h k (Layer l) = go (eqb l n)
+    where
+      go : (b : Bool) → Ends (cond b r (z (Layer l)))
+      go true = k
+      go false = h (Layer l)
+
   -- a redraw rectangle lies in the canvas and in the region
   pub damage-inside : (e : Effect) (z : Input → R.Rect) → Covers (bounds canvas e) (damage canvas e z)
   damage-inside e z = record { covers = λ x y h. meet-left _ _ h }
 
-  pub damages-inside : (effects : ℕ → Effect) (r : R.Rect) (k n : ℕ) → k < n → Covers (bounds canvas (effects k)) (damages canvas effects r n (Layer k))
+  pub damages-inside : (effects : ℕ → Effect) (r : R.Rect) (k n : ℕ) → k < n
+      → Covers (bounds canvas (effects k)) (damages canvas effects r n (Layer k))
   damages-inside effects r k n l = rw (damages-layer canvas effects r k n l) (damage-inside (effects k) (damages canvas effects r k))
 
   -- its far bounds are at most the canvas', also where it is empty
-  pub damages-right : (effects : ℕ → Effect) (r : R.Rect) (k n : ℕ) → k < n → damages canvas effects r n (Layer k) .right ≤ canvas .right
-  damages-right effects r k n l = rw (damages-layer canvas effects r k n l) (omega arith)
-
-  pub damages-bottom : (effects : ℕ → Effect) (r : R.Rect) (k n : ℕ) → k < n → damages canvas effects r n (Layer k) .bottom ≤ canvas .bottom
-  damages-bottom effects r k n l = rw (damages-layer canvas effects r k n l) (omega arith)
+  pub damages-within : (effects : ℕ → Effect) (r : R.Rect) → Ends r → (n : ℕ) (i : Input) → Ends (damages canvas effects r n i)
+  unfolding damages
+  damages-within effects r h zero i = named-ends r h i
+  damages-within effects r h (suc n) i = replaced-ends n _ _ (damages-within effects r h n) (record { right = omega arith; bottom = omega arith }) i
