@@ -1,5 +1,6 @@
 -- What a sheet means. In reading order: rectangles and pictures; how far a step looks; a step as an effect; layers and redraws;
--- the meaning of each kind and of a step; valid pictures; pictures as bytes; the refusal table; the worked examples.
+-- the meaning of each kind and of a step; valid pictures; pictures as bytes, and the two sources of a redraw; the refusal table, and what a
+-- step may read; the worked examples.
 pub mod Rect
 pub mod Picture
 pub mod Reach
