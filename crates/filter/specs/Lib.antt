@@ -14,4 +14,5 @@ pub mod Change
 pub mod Answers
 pub mod Checks
 pub mod Earlier
+pub mod Accepted
 pub mod Examples

@@ -4,6 +4,8 @@ use mathlib.Core.List.{List}
 use Prim.Native.Nat.{ℕ, _+_, _-_, _*_, _≤_, _<_}
 use native.Mathlib.Nat.{mul-left-comm, zero-mul}
 use native.Mathlib.Omega.{arith}
+use mathlib.Core.Bool.{true}
+use borrow.Author.Tests.{ltb-true}
 use lib.ListN.{length, getD, take, drop}
 use lib.Seq.{getD-take, getD-drop}
 use Rattle.pixel.specs.declared.Pixel.{Pixel}
@@ -12,8 +14,9 @@ use Rattle.raster.specs.Row.{alphaOf}
 use Rattle.raster.proofs.Painting.{painted-as, pixel-same}
 use Rattle.filter.specs.declared.Input.{Input}
 use Rattle.filter.specs.declared.Input.the-variants.{Source, SourceAlpha, Layer}
+use Rattle.filter.specs.Checks.{allowed?}
 use Rattle.filter.specs.Bytes.{size, read}
-use Rattle.stage.specs.Buffers.{stands, placeOf, rowAt, Loaded, Sized, Earlier}
+use Rattle.stage.specs.Buffers.{stands, placeOf, rowAt, Loaded}
 use Rattle.stage.proofs.Read.{read-at}
 use Rattle.stage.proofs.Sizes.{below, row-ends}
 
@@ -62,8 +65,8 @@ module _ (w h : ℕ) (src ws : List ℕ) (y from to : ℕ) (row row′ : List �
       let e : at + (j - 0) ≡ placeOf w h k y + (from + j) = omega arith in
       ap (λ (q : ℕ). pixelAt ws (4 * q)) e ∙ read-place w h k ws (from + j) y (omega arith) high) P)
 
-pub earlier-is : (n : ℕ) (i : Input) (k : ℕ) → i ≡ Layer k → Earlier n i → k < n
-earlier-is n i k e l = rw e at l
+pub allowed-below : (n : ℕ) (i : Input) (k : ℕ) → i ≡ Layer k → allowed? n i ≡ true → k < n
+allowed-below n i k e l = ltb-true k n (rw e at l)
 
 -- a pixel of a part of a list
 pub pixel-part : (d : List ℕ) (o k i j : ℕ) → i + 4 ≤ k → o + i ≡ j → pixelAt (take k (drop o d)) i ≡ pixelAt d j

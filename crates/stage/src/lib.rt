@@ -1,11 +1,13 @@
 // Rows of the pictures in the caller's buffers, brought to work rows and back.
 ghost use mathlib.Core.Path.{_≡_};
+ghost use mathlib.Core.Bool.{true};
 ghost use Prim.Native.Nat.{_+_, _-_, _*_, _≤_, _<_};
 ghost use lib.ListN.{length};
 ghost use Rattle.pixel.specs.Bytes.{pixelAt, Painted};
 ghost use Rattle.raster.specs.Row.{alphaOf};
+ghost use Rattle.filter.specs.Checks.{allowed?};
 ghost use Rattle.filter.specs.Bytes.{size};
-ghost use Rattle.stage.specs.Buffers.{stands, Earlier, rowAt, placeOf, Loaded, Sized};
+ghost use Rattle.stage.specs.Buffers.{stands, rowAt, placeOf, Loaded, Sized};
 ghost use Rattle.stage.specs.Drawn.{Drawn};
 ghost use Rattle.stage.specs.Strip.{stripAt};
 use filter::Input;
@@ -43,7 +45,7 @@ pub fn load(
     row: &mut [u8],
 )
     requires { ⌜ Sized w h n (now source) (now workspace) ⌝ }
-    requires { ⌜ (y < h) × (from ≤ to) × (to ≤ w) × Earlier n input × (4 * (to - from) ≤ length (now row)) ⌝ }
+    requires { ⌜ (y < h) × (from ≤ to) × (to ≤ w) × (allowed? n input ≡ true) × (4 * (to - from) ≤ length (now row)) ⌝ }
     ensures { λ _. ⌜ Loaded (stands w h (now (source .entry)) (now (workspace .entry)) input) y from to (now (row .entry)) (now (row .exit)) ⌝ }
 {
     match input {

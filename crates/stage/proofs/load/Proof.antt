@@ -3,7 +3,7 @@ use Prim.Native.Nat.{ℕ, _+_, _*_}
 use native.Mathlib.Omega.{arith}
 use Rattle.filter.specs.Bytes.{size}
 use Rattle.stage.proofs.Sizes.{below}
-use Rattle.stage.proofs.Places.{loaded-source, loaded-alpha, loaded-layer, earlier-is}
+use Rattle.stage.proofs.Places.{loaded-source, loaded-alpha, loaded-layer, allowed-below}
 use borrow.Author.Needs.{needs}
 use Rattle.stage.proofs.load.Statement.{statement}
 use Rattle.stage.proofs.load.Tie as tie
@@ -62,7 +62,7 @@ enum-known-input c = search needs
 place-requires-3 : tie.Need-place-requires-3
 place-requires-3 c κs =
     let s = c .before .before .before .before .before .before in
-    let l = earlier-is (s .args .n) (s .args .input) _ (c .before .input .given .1) (s .pre .1 .3) in
+    let l = allowed-below (s .args .n) (s .args .input) _ (c .before .input .given .1) (s .pre .1 .3) in
     (search needs, search needs, omega (arith, s .pre .0 .steps), search needs)
 
 add-at-3 : tie.Need-add-at-3
@@ -75,7 +75,7 @@ copy-pixels-requires-2 : tie.Need-copy-pixels-requires-2
 copy-pixels-requires-2 c κs =
     let s = c .before .before .before .before .before .before .before .before in
     let k = c .before .before .before .input .given .0 .0 in
-    let l = earlier-is (s .args .n) (s .args .input) k (c .before .before .before .input .given .1) (s .pre .1 .3) in
+    let l = allowed-below (s .args .n) (s .args .input) k (c .before .before .before .input .given .1) (s .pre .1 .3) in
     (search needs, search needs, omega (arith, below (s .args .n) k (size (s .args .w) (s .args .h)) l, s .pre .0 .workspace))
 
 same-length-3 : tie.Need-same-length-3
