@@ -5,6 +5,7 @@ use native.Mathlib.Nat.{add-mul, mul-assoc}
 use native.Mathlib.Omega.{arith}
 use lib.IntN.{subℕ}
 use Rattle.pixel.specs.Arithmetic.{arithmeticChannel}
+use Rattle.pixel.specs.Matrix.{matrixChannel}
 use Rattle.raster_color.specs.Code.{level}
 use Rattle.raster_color.proofs.Whole.{diff-sub, diff-add, diff-mul, diff-by, diff-plus, diff-limited}
 
@@ -25,3 +26,10 @@ pub level-law : (u1 d1 u2 d2 u3 d3 u4 d4 x y : ℕ)
 level-law u1 d1 u2 d2 u3 d3 u4 d4 x y =
     ap₂ (λ (m n : ℕ). min ((m - n) / 16711680) 255) (omega (arith, line u1 u2 u3 u4 x y)) (line d1 d2 d3 d4 x y)
     ∙ arithmetic-law u1 d1 u2 d2 u3 d3 u4 d4 x y
+
+pub matrix-law : (u1 d1 u2 d2 u3 d3 u4 d4 u5 d5 r g b a : ℕ)
+    → min ((u1 * r + u2 * g + u3 * b + u4 * a + 255 * u5 + 32768 - (d1 * r + d2 * g + d3 * b + d4 * a + 255 * d5)) / 65536) 255
+    ≡ matrixChannel (subℕ u1 d1) (subℕ u2 d2) (subℕ u3 d3) (subℕ u4 d4) (subℕ u5 d5) r g b a
+unfolding matrixChannel
+matrix-law u1 d1 u2 d2 u3 d3 u4 d4 u5 d5 r g b a = sym (diff-limited 65536 (diff-plus 32768
+    (diff-add (diff-add (diff-add (diff-add (diff-mul r (diff-sub u1 d1)) (diff-mul g (diff-sub u2 d2))) (diff-mul b (diff-sub u3 d3))) (diff-mul a (diff-sub u4 d4))) (diff-by 255 (diff-sub u5 d5)))))
