@@ -1,0 +1,74 @@
+-- Premultiply: division by 255 by shifts, and a row of factors against pixels. Assumes nothing.
+use mathlib.Core.Path.{_≡_, refl, sym, ap, ap₂, _∙_}
+use mathlib.Core.List.{List}
+use Prim.Native.Nat.{ℕ, _+_, _*_, _/_, _%_, _≤_, _<_}
+use native.Mathlib.Nat.{mul-le-mul, add-mul-mod-self-right, mod-eq-of-lt}
+use native.Mathlib.Omega.{arith}
+use lib.ListN.{length, getD}
+use Rattle.window.specs.Store.{Filled}
+use Rattle.pixel.specs.declared.Pixel.{Pixel}
+use Rattle.pixel.specs.declared.Matrix.{Matrix}
+use Rattle.pixel.specs.Alpha.{pixel, premultiplied}
+use Rattle.pixel.specs.Matrix.{transformed}
+use Rattle.pixel.specs.Bytes.{pixelAt, Painted}
+use Rattle.raster_color.specs.Code.{factors, covered, mixed}
+use Rattle.raster_color.proofs.Painted.{pixel-by}
+
+pub by-255 : (n : ℕ) → n ≤ 65025 → (n + 128 + (n + 128) / 256) / 256 ≡ (n + 127) / 255
+by-255 n h = omega arith
+
+pub byte-product : (u a : ℕ) → u < 256 → a < 256 → u * a ≤ 65025
+byte-product u a h k = let i : u ≤ 255 = omega arith in let j : a ≤ 255 = omega arith in mul-le-mul i j
+
+opaque : (a : ℕ) → premultiplied a 255 ≡ a
+opaque a = omega arith
+
+low-byte : (n q a : ℕ) → n ≡ a + q * 256 → a < 256 → n % 256 ≡ a
+low-byte n q a e l = rw (e, add-mul-mod-self-right a q 256) (mod-eq-of-lt l)
+
+-- the four bytes of a word are an alpha three times, and 255
+pub word-factors : (a : ℕ) → a < 256
+    → pixel ((a * 65793 + 4278190080) % 256) ((a * 65793 + 4278190080) / 256 % 256) ((a * 65793 + 4278190080) / 65536 % 256) ((a * 65793 + 4278190080) / 16777216) ≡ factors a
+word-factors a l =
+    let w : ℕ = a * 65793 + 4278190080 in
+    let e0 : w % 256 ≡ a = low-byte w (a * 257 + 16711680) a (omega arith) l in
+    let e1 : w / 256 % 256 ≡ a = low-byte (w / 256) (a + 65280) a (omega arith) l in
+    let e2 : w / 65536 % 256 ≡ a = low-byte (w / 65536) 255 a (omega arith) l in
+    let e3 : w / 16777216 ≡ 255 = omega arith in
+    λ t. record { r = e0 t; g = e1 t; b = e2 t; a = e3 t }
+
+-- bytes scaled by the row of factors are pixels premultiplied
+pub covered-row : (d f₀ f d′ : List ℕ) (n : ℕ) → length d ≡ 4 * n
+    → Painted (λ x. factors (getD d (4 * x + 3) 0)) 0 0 n f₀ f
+    → Filled (λ i. premultiplied (getD d i 0) (getD f i 0)) 0 (length d) d d′
+    → Painted (λ x. covered (pixelAt d (4 * x))) 0 0 n d d′
+unfolding covered
+covered-row d f₀ f d′ n long P F = record {
+  inside = λ x lo hi.
+      let z : 0 + 4 * x ≡ 4 * x = omega arith in
+      let p : pixelAt f (4 * x) ≡ factors (getD d (4 * x + 3) 0) = rw z at (P .inside x lo hi) in
+      let scaled : (i a : ℕ) → i < length d → getD f i 0 ≡ a → getD d′ i 0 ≡ premultiplied (getD d i 0) a
+      = λ i a l e. F .inside i (omega arith) l ∙ ap (premultiplied (getD d i 0)) e in
+      rw z (pixel-by d′ (4 * x) (covered (pixelAt d (4 * x)))
+      (scaled (4 * x) _ (omega arith) (ap (λ (q : Pixel). q .r) p))
+      (scaled (4 * x + 1) _ (omega arith) (ap (λ (q : Pixel). q .g) p))
+      (scaled (4 * x + 2) _ (omega arith) (ap (λ (q : Pixel). q .b) p))
+      (scaled (4 * x + 3) _ (omega arith) (ap (λ (q : Pixel). q .a) p) ∙ opaque (getD d (4 * x + 3) 0)));
+  before = λ i h. absurd (omega arith);
+  after = λ i h. F .after i (omega arith);
+  long = F .long;
+}
+
+-- mixed, and then premultiplied
+pub transformed-row : (m : Matrix) (s d d′ d″ : List ℕ) (n : ℕ)
+    → Painted (λ x. mixed m (pixelAt s (4 * x))) 0 0 n d d′ → Painted (λ x. covered (pixelAt d′ (4 * x))) 0 0 n d′ d″
+    → Painted (λ x. transformed m (pixelAt s (4 * x))) 0 0 n d d″
+unfolding transformed covered mixed
+transformed-row m s d d′ d″ n P Q = record {
+  inside = λ x lo hi.
+      let z : 0 + 4 * x ≡ 4 * x = omega arith in
+      Q .inside x lo hi ∙ ap covered (rw z at (P .inside x lo hi));
+  before = λ i h. Q .before i h ∙ P .before i h;
+  after = λ i h. Q .after i h ∙ P .after i h;
+  long = Q .long ∙ P .long;
+}

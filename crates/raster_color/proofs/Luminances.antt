@@ -1,0 +1,33 @@
+-- Luminance to alpha: its three rows of zeros, and its row for A. Assumes nothing.
+use mathlib.Core.Path.{_≡_, sym, ap, _∙_}
+use Prim.Native.Nat.{ℕ, _+_, _-_, _*_, _/_, _≤_, _<_, min}
+use native.Mathlib.Nat.{zero-mul}
+use native.Mathlib.Omega.{arith}
+use lib.IntN.{pos}
+use Rattle.pixel.specs.declared.Pixel.{Pixel}
+use Rattle.pixel.specs.Alpha.{pixel, unpremultiplied, premultiplied, Valid}
+use Rattle.pixel.specs.Matrix.{matrixChannel, luminance, transformed}
+use Rattle.raster_color.proofs.Channels.{matrix-law}
+use Rattle.raster_color.proofs.Reciprocals.{straight-lt}
+
+nothing : (r g b a : ℕ) → matrixChannel (pos 0) (pos 0) (pos 0) (pos 0) (pos 0) r g b a ≡ 0
+nothing r g b a = sym (matrix-law 0 0 0 0 0 0 0 0 0 0 r g b a) ∙ simp zero-mul
+
+weighed : (r g b a : ℕ) → r < 256 → g < 256 → b < 256
+    → matrixChannel (pos 13926) (pos 46884) (pos 4725) (pos 0) (pos 0) r g b a ≡ (13926 * r + 46884 * g + 4725 * b + 32768) / 65536
+weighed r g b a lr lg lb = sym (matrix-law 13926 0 46884 0 4725 0 0 0 0 0 r g b a) ∙ simp zero-mul (omega arith)
+
+uncovered : (a : ℕ) → premultiplied 0 a ≡ 0
+uncovered a = simp zero-mul
+
+pub luminance-pixel : (p : Pixel) (v : ℕ) → Valid p
+    → v ≡ (13926 * unpremultiplied (p .r) (p .a) + 46884 * unpremultiplied (p .g) (p .a) + 4725 * unpremultiplied (p .b) (p .a) + 32768) / 65536
+    → pixel 0 0 0 v ≡ transformed luminance p
+unfolding transformed luminance
+luminance-pixel p v ok e =
+    let r : ℕ = unpremultiplied (p .r) (p .a) in
+    let g : ℕ = unpremultiplied (p .g) (p .a) in
+    let b : ℕ = unpremultiplied (p .b) (p .a) in
+    let n = nothing r g b (p .a) in
+    let w = weighed r g b (p .a) (straight-lt (p .r) (p .a) (ok .r)) (straight-lt (p .g) (p .a) (ok .g)) (straight-lt (p .b) (p .a) (ok .b)) in
+    rw (n, w, uncovered, e)

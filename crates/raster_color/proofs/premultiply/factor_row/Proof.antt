@@ -1,0 +1,83 @@
+-- `raster_color::premultiply::factor_row` meets its contract: one pixel more in each turn, by the law of a word of factors. Assumes nothing.
+use mathlib.Core.Path.{_≡_}
+use Prim.Native.Nat.{_+_, _-_, _*_, _≤_}
+use lib.ListN.{getD}
+use native.Mathlib.Omega.{arith}
+use borrow.Author.Needs.{needs}
+use Rattle.pixel.specs.Bytes.{Painted}
+use Rattle.raster_color.specs.Code.{factors}
+use Rattle.raster_color.proofs.Painted.{painted-none, painted-more}
+use Rattle.raster_color.proofs.Covers.{word-factors}
+use Rattle.raster_color.proofs.premultiply.factor_row.Statement.{statement}
+use Rattle.raster_color.proofs.premultiply.factor_row.Tie as tie
+
+abbrev Inv-loop : tie.InvT-loop
+Inv-loop d f₀ n x₀ f x = (x ≤ n) × Painted (λ z. factors (getD d (4 * z + 3) 0)) 0 0 x f₀ f
+
+abbrev μ-loop : tie.MeasureT-loop
+μ-loop d f₀ n x₀ f x = n - x
+
+loop-holds : tie.Need-loop-holds Inv-loop μ-loop
+loop-holds c = (omega arith, painted-none _ _ _ _)
+
+mul-i : tie.Need-mul-i Inv-loop μ-loop
+mul-i c = search needs
+
+add-put-word : tie.Need-add-put-word Inv-loop μ-loop
+add-put-word c = search needs
+
+shared-slice-read-put-word : tie.Need-shared-slice-read-put-word Inv-loop μ-loop
+shared-slice-read-put-word c = search needs
+
+cast-put-word : tie.Need-cast-put-word Inv-loop μ-loop
+cast-put-word c = omega (arith, c .shared-slice-known2 .given (4 * c .before .before .before .loop .x + 3))
+
+mul-put-word : tie.Need-mul-put-word Inv-loop μ-loop
+mul-put-word c = omega (arith, c .shared-slice-known2 .given (4 * c .before .before .before .loop .x + 3))
+
+add-put-word-2 : tie.Need-add-put-word-2 Inv-loop μ-loop
+add-put-word-2 c = omega (arith, c .shared-slice-known2 .given (4 * c .before .before .before .loop .x + 3))
+
+put-word-requires : tie.Need-put-word-requires Inv-loop μ-loop
+put-word-requires c κs = omega (arith, c .before .before .before .loop .inv .1 .long)
+
+add-x : tie.Need-add-x Inv-loop μ-loop
+add-x c = search needs
+
+loop-less : tie.Need-loop-less Inv-loop μ-loop
+loop-less c = search needs
+
+loop-again : tie.Need-loop-again Inv-loop μ-loop
+loop-again c =
+    let word = c .before .before .before in
+    let L = word .before .before .before .loop in
+    let byte = word .shared-slice-known2 .given (4 * L .x + 3) in
+    (omega arith, painted-more _ _ _ _ _ _ _ _ _ (omega arith) (omega arith) (word-factors _ (omega (arith, byte))) (L .inv .1) (c .before .before .put-word .ensures))
+
+same-length : tie.Need-same-length Inv-loop μ-loop
+same-length c = c .before .loop .inv .1 .long
+
+returns : tie.Need-returns Inv-loop μ-loop
+returns c =
+    let e : c .before .loop .x ≡ c .before .before .before .before .args .n = omega arith in
+    rw (← e) (c .before .loop .inv .1)
+
+pub factor-row-spec : {M : Type 1} → statement M
+factor-row-spec =
+    tie.close
+    (tie.spec
+    Inv-loop
+    μ-loop
+    loop-holds
+    mul-i
+    add-put-word
+    shared-slice-read-put-word
+    cast-put-word
+    mul-put-word
+    add-put-word-2
+    put-word-requires
+    add-x
+    loop-less
+    loop-again
+    same-length
+    returns)

@@ -1,0 +1,46 @@
+// Premultiply a row of pixels in place.
+use super::store::put_word;
+ghost use mathlib.Core.Path.{_≡_};
+ghost use Prim.Native.Nat.{ℕ, _+_, _-_, _*_, _/_, _≤_, _<_};
+ghost use lib.ListN.{length, getD};
+ghost use Rattle.window.specs.Store.{Filled};
+ghost use Rattle.pixel.specs.Alpha.{pixel, premultiplied};
+ghost use Rattle.pixel.specs.Bytes.{pixelAt, Painted};
+ghost use Rattle.raster_color.specs.Code.{factors, covered};
+
+// (u·a + 127) ÷ 255, by shifts.
+fn premultiply(u: u8, a: u8) -> u8
+    ensures { λ r. ⌜ r ≡ premultiplied u a ⌝ }
+{
+    let t = (u as u16) * (a as u16) + 128;
+    ((t + t / 256) / 256) as u8
+}
+
+// What each byte of a pixel is multiplied by: its alpha, and 255 for the alpha itself.
+fn factor_row(d: &[u8], f: &mut [u8], n: usize)
+    requires { ⌜ (length (now d) ≡ 4 * n) × (4 * n ≤ length (now f)) ⌝ }
+    ensures { λ _. ⌜ Painted (λ x. factors (getD (now (d .entry)) (4 * x + 3) 0)) 0 0 n (now (f .entry)) (now (f .exit)) ⌝ }
+{
+    for x in 0..n {
+        let i = 4 * x;
+        put_word(f, i, (d[i + 3] as u32) * 65793 + 4278190080);
+    }
+}
+
+fn scale_row(f: &[u8], d: &mut [u8])
+    requires { ⌜ length (now d) ≤ length (now f) ⌝ }
+    ensures { λ _. ⌜ Filled (λ i. premultiplied (getD (now (d .entry)) i 0) (getD (now (f .entry)) i 0)) 0 (length (now (d .entry))) (now (d .entry)) (now (d .exit)) ⌝ }
+{
+    for i in 0..d.len() {
+        d[i] = premultiply(d[i], f[i]);
+    }
+}
+
+pub fn premultiply_row(d: &mut [u8], n: usize)
+    requires { ⌜ (length (now d) ≡ 4 * n) × (n ≤ 1024) ⌝ }
+    ensures { λ _. ⌜ Painted (λ x. covered (pixelAt (now (d .entry)) (4 * x))) 0 0 n (now (d .entry)) (now (d .exit)) ⌝ }
+{
+    let mut f = [0u8; 4096];
+    factor_row(&d[..], &mut f, n);
+    scale_row(&f, d);
+}
