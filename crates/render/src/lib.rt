@@ -1,0 +1,2 @@
+// The entry points: render, redraw, layer. None asks anything beforehand.
+fn nothing() {}
