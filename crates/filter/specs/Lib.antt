@@ -11,4 +11,5 @@ pub mod Valid
 pub mod Bytes
 pub mod Answers
 pub mod Checks
+pub mod Accepted
 pub mod Examples

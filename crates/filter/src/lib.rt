@@ -1,5 +1,8 @@
 // What a sheet of filter steps is: document 01's sheet, step, region, input and answer.
-use number::Fault;
+pub mod answers;
+pub mod rects;
+pub mod sheets;
+
 use number::Number;
 use pixel::Arithmetic;
 use pixel::Matrix;

@@ -1,0 +1,3 @@
+-- Laws that the code's proofs cite.
+pub mod CodeRects
+pub mod CodeAnswers
