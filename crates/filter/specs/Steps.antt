@@ -12,6 +12,7 @@ use Rattle.number.specs.Number.{judged, fixedOf}
 use Rattle.window.specs.Window.{boxSize}
 use Rattle.pixel.specs.declared.Matrix as M
 use Rattle.pixel.specs.declared.Row.{Row}
+use Rattle.pixel.specs.declared.Arithmetic.{Arithmetic}
 use Rattle.pixel.specs.Matrix.{saturation}
 use Rattle.pixel.specs.Flood.{flooded}
 use Rattle.filter.specs.declared.Input as I
@@ -21,6 +22,7 @@ use Rattle.filter.specs.declared.Kind.the-variants as K
 use Rattle.filter.specs.declared.Wire.{Wire}
 use Rattle.filter.specs.declared.Operand.{Operand}
 use Rattle.filter.specs.declared.Shift.{Shift}
+use Rattle.filter.specs.declared.Inputs.{Inputs}
 use Rattle.filter.specs.declared.Step.{Step}
 use Rattle.filter.specs.declared.Primitive.{Primitive}
 use Rattle.filter.specs.declared.Primitive.the-variants as P
@@ -104,6 +106,14 @@ rowAt s i j k l m = record { r = unitsAt s i; g = unitsAt s j; b = unitsAt s k; 
 abbrev pub matrixOf : Step → M.Matrix
 matrixOf s = record { r = rowAt s 0 1 2 3 4; g = rowAt s 5 6 7 8 9; b = rowAt s 10 11 12 13 14; a = rowAt s 15 16 17 18 19 }
 
+-- "k1 to k4"
+abbrev pub arithmeticOf : Step → Arithmetic
+arithmeticOf s = record { k1 = unitsAt s 0; k2 = unitsAt s 1; k3 = unitsAt s 2; k4 = unitsAt s 3 }
+
+-- the four places for a merge's inputs
+abbrev pub fourInputs : Step → Inputs
+fourInputs s = record { first = inputAt s 0; second = inputAt s 1; third = inputAt s 2; fourth = inputAt s 3 }
+
 -- the primitive of a step, by its kind
 abbrev pub primitiveOf : Kind → Step → Primitive
 primitiveOf (K.Flood r g b) s = P.Flood (flooded r g b (unitsAt s 0 .above))
@@ -115,10 +125,8 @@ primitiveOf K.Matrix s = P.Transform (inputAt s 0) (matrixOf s)
 primitiveOf K.Saturate s = P.Transform (inputAt s 0) (saturation (unitsAt s 0 .above))
 primitiveOf K.LuminanceToAlpha s = P.Luminance (inputAt s 0)
 primitiveOf (K.Composite o) s = P.Composite o (inputAt s 0) (inputAt s 1)
-primitiveOf K.Arithmetic s =
-    P.Combine (record { k1 = unitsAt s 0; k2 = unitsAt s 1; k3 = unitsAt s 2; k4 = unitsAt s 3 }) (inputAt s 0) (inputAt s 1)
-primitiveOf (K.Merge n) s =
-    P.Merge n (record { first = inputAt s 0; second = inputAt s 1; third = inputAt s 2; fourth = inputAt s 3 })
+primitiveOf K.Arithmetic s = P.Combine (arithmeticOf s) (inputAt s 0) (inputAt s 1)
+primitiveOf (K.Merge n) s = P.Merge n (fourInputs s)
 
 unfoldable pub resolved : Step → Primitive
 resolved s = primitiveOf (s .kind) s

@@ -2,6 +2,7 @@
 use super::Answer;
 ghost use mathlib.Core.Path.{_≡_};
 ghost use Rattle.filter.specs.Answers.{numberOf, placeOf, accepted?};
+ghost use Rattle.filter.specs.Checks.{orElse};
 
 pub fn number(answer: Answer) -> u64
     ensures { λ n. ⌜ n ≡ numberOf answer ⌝ }
@@ -53,4 +54,14 @@ pub fn is_accepted(answer: Answer) -> bool
     ensures { λ b. ⌜ b ≡ accepted? answer ⌝ }
 {
     number(answer) == 0
+}
+
+// The first of two that is not Done.
+pub fn first(a: Answer, b: Answer) -> Answer
+    ensures { λ o. ⌜ o ≡ orElse a b ⌝ }
+{
+    if is_accepted(a) {
+        return b;
+    }
+    a
 }

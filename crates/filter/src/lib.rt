@@ -1,7 +1,12 @@
 // What a sheet of filter steps is: document 01's sheet, step, region, input and answer.
 pub mod answers;
+mod basics;
+pub mod checks;
 pub mod rects;
+pub mod resolve;
 pub mod sheets;
+pub mod sizes;
+pub mod steps;
 
 use number::Number;
 use pixel::Arithmetic;

@@ -2,30 +2,14 @@
 use super::Rect;
 use super::Region;
 use super::Shift;
+use super::basics::least;
+use super::basics::less;
+use super::basics::most;
 ghost use mathlib.Core.Path.{_≡_};
-ghost use Prim.Native.Nat.{_+_, _-_, _≤_, min, max};
+ghost use Prim.Native.Nat.{_+_, _-_, _≤_};
 ghost use Rattle.filter.specs.Rect.{boundsOf, canvasOf, empty, filled, area as areaOf, meet as met, hull as hulled, join as joined};
 ghost use Rattle.filter.specs.Reach.{window, span, moved, grow};
 ghost use Rattle.filter.specs.Accepted.{Within, Near};
-
-fn least(a: usize, b: usize) -> usize
-    ensures { λ o. ⌜ o ≡ min a b ⌝ }
-{
-    if a < b { a } else { b }
-}
-
-fn most(a: usize, b: usize) -> usize
-    ensures { λ o. ⌜ o ≡ max a b ⌝ }
-{
-    if a < b { b } else { a }
-}
-
-// The difference, 0 at least.
-fn less(a: usize, b: usize) -> usize
-    ensures { λ o. ⌜ o ≡ a - b ⌝ }
-{
-    if a < b { 0 } else { a - b }
-}
 
 pub fn bounds(region: Region) -> Rect
     requires { ⌜ (region .x + region .width ≤ 18446744073709551615) × (region .y + region .height ≤ 18446744073709551615) ⌝ }
