@@ -1,7 +1,7 @@
 -- The tests of the refusal table in code: accepted answers, the first refusal, and the fold over inputs, numbers and steps. Assumes nothing.
 use Prim.Native.Nat.{ℕ, zero, suc, _+_, _-_, _*_, _≤_, _<_}
 use mathlib.Core.Path.{_≡_, refl, sym, ap, ap₂, _∙_}
-use mathlib.Core.Bool.{Bool, true, false, _&&_, false≢true}
+use mathlib.Core.Bool.{Bool, true, false, _&&_}
 use native.Mathlib.Numerals.{add-one}
 use native.Mathlib.Omega.{arith}
 use lib.Dec.{ltb, leb, eqb}
@@ -13,7 +13,8 @@ use Rattle.filter.specs.declared.Answer as A
 use Rattle.filter.specs.declared.Answer.the-variants.{Done, Canvas, Source, StepCount, Workspace, Scratch, Rectangle, Input, NotFinite, Negative, OutOfRange, NotWhole, WideBox, OutsideCanvas, AboveAlpha}
 use Rattle.filter.specs.Answers.{numberOf, accepted?}
 use Rattle.filter.specs.Steps.{inputsOf, inputAt}
-use Rattle.filter.specs.Checks.{unless, orElse, firstOf, all, allowed?, merges?, inputs?, numbersAnswer, boxes?, onCanvas?, stepAnswer, canvas?, count?}
+use Rattle.filter.proofs.Earlier.{both-true}
+use Rattle.filter.specs.Checks.{unless, orElse, firstOf, all, allowed?, merges?, inputs?, numbersAnswer, boxes?, onCanvas?, stepAnswer}
 
 pub accepted-zero : (a : A.Answer) → eqb (numberOf a) 0 ≡ accepted? a
 unfolding accepted?
@@ -32,20 +33,6 @@ accepted-zero (NotWhole n) = refl
 accepted-zero (WideBox n) = refl
 accepted-zero (OutsideCanvas n) = refl
 accepted-zero (AboveAlpha p) = refl
-
-both : (a b : Bool) → (a && b) ≡ true → (a ≡ true) × (b ≡ true)
-both false b e = absurd (false≢true e)
-both true b e = (refl, e)
-
--- 1 and 3
-pub canvas-small : (w h : ℕ) → canvas? w h ≡ true → (w ≤ 1024) × (h ≤ 1024)
-canvas-small w h e =
-    let a = both (ltb 0 w) (leb w 1024 && (ltb 0 h && leb h 1024)) e in
-    let b = both (leb w 1024) (ltb 0 h && leb h 1024) (a .1) in
-    (leb-true w 1024 (b .0), leb-true h 1024 (both (ltb 0 h) (leb h 1024) (b .1) .1))
-
-pub count-small : (n : ℕ) → count? n ≡ true → n ≤ 16
-count-small n e = leb-true n 16 (both (ltb 0 n) (leb n 16) e .1)
 
 -- tests as answers, the first refusal of which is the step's
 first-unless : (t : Bool) (a x : A.Answer) → accepted? a ≡ false → orElse (unless t a Done) x ≡ unless t a x
@@ -80,7 +67,7 @@ inputs-few K.Saturate e = omega arith
 inputs-few K.LuminanceToAlpha e = omega arith
 inputs-few (K.Composite o) e = omega arith
 inputs-few K.Arithmetic e = omega arith
-inputs-few (K.Merge n) e = leb-true n 4 (both (ltb 0 n) (leb n 4) e .1)
+inputs-few (K.Merge n) e = leb-true n 4 (both-true (ltb 0 n) (leb n 4) e .1)
 
 pub inputs-refused : (n : ℕ) (s : Step) → merges? (s .kind) ≡ false → false ≡ inputs? n s
 unfolding inputs?

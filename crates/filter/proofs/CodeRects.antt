@@ -1,11 +1,11 @@
 -- Rectangles in code: each case of a definition, from the tests that lead to it. Assumes nothing.
 use Prim.Native.Nat.{ℕ, _+_, _-_, _*_, _≤_, _<_}
-use mathlib.Core.Path.{_≡_, refl, ap₂}
-use mathlib.Core.Bool.{Bool, true, false, _&&_, false≢true}
+use mathlib.Core.Path.{_≡_, ap₂}
+use mathlib.Core.Bool.{true, false}
 use native.Mathlib.Nat.{mul-le-mul-right}
 use native.Mathlib.Omega.{arith}
 use lib.Dec.{ltb}
-use borrow.Author.Tests.{ltb-true, lt-ltb, le-ltb}
+use borrow.Author.Tests.{lt-ltb, le-ltb}
 use Rattle.filter.specs.declared.Rect.{Rect}
 use Rattle.filter.specs.Rect.{empty, filled, area, hull, join}
 use Rattle.filter.specs.Reach.{Reach, window, span, moved, stretch, grow}
@@ -20,14 +20,6 @@ filled-wide z l = simp (lt-ltb _ _ l)
 pub filled-narrow : (z : Rect) → z .right ≤ z .left → ltb (z .left) (z .right) ≡ filled z
 unfolding filled
 filled-narrow z l = simp (le-ltb _ _ l)
-
-both : (a b : Bool) → (a && b) ≡ true → (a ≡ true) × (b ≡ true)
-both false b e = absurd (false≢true e)
-both true b e = (refl, e)
-
-pub filled-lt : (z : Rect) → filled z ≡ true → (z .left < z .right) × (z .top < z .bottom)
-unfolding filled
-filled-lt z e = let t = both (ltb (z .left) (z .right)) (ltb (z .top) (z .bottom)) e in (ltb-true _ _ (t .0), ltb-true _ _ (t .1))
 
 pub grow-span : (z x : Rect) (b a d u : ℕ) → filled z ≡ true → x .left ≡ z .left - a → x .right ≡ z .right + b → x .top ≡ z .top - u → x .bottom ≡ z .bottom + d
     → x ≡ grow (window (span b a) (span d u)) z

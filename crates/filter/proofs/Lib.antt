@@ -1,5 +1,24 @@
--- Laws that the code's proofs cite.
+-- What follows from the rules of specs/; then the laws that the code's proofs cite.
+pub mod Rects
+pub mod Patches
+pub mod Windows
+pub mod Locality
+pub mod Redraws
+pub mod Contents
+pub mod Demand
+pub mod Concat
+pub mod Joins
+pub mod Areas
+pub mod Earlier
+pub mod Keeps
+pub mod Units
+pub mod Validity
+pub mod ValidLayers
+pub mod Scans
+pub mod Refusals
 pub mod CodeRects
 pub mod CodeSteps
 pub mod CodeAnswers
-pub mod CodeUnits
+pub mod CodeSheets
+pub mod CodeAccepted
+pub mod CodeDamage

@@ -1,13 +1,10 @@
 -- What the checks establish: the precondition of whoever works an accepted sheet, by cases on the primitive. Assumes nothing.
-use Prim.Native.Nat.{ℕ, _+_, _≤_, _<_}
+use Prim.Native.Nat.{ℕ, _+_, _*_, _≤_, _<_}
 use mathlib.Core.Path.{_≡_}
 use mathlib.Core.Logic.{_⊎_}
 use mathlib.Core.List.{List}
 use lib.ListN.{replicate}
-use Rattle.pixel.specs.Alpha.{Valid}
 use Rattle.pixel.specs.Coefficient.{AllowedArithmetic, AllowedMatrix}
-use Rattle.filter.specs.declared.Input.{Input}
-use Rattle.filter.specs.declared.Input.the-variants.{Layer}
 use Rattle.filter.specs.declared.Rect.{Rect}
 use Rattle.filter.specs.declared.Shift.{Shift}
 use Rattle.filter.specs.declared.Primitive.{Primitive}
@@ -15,6 +12,9 @@ use Rattle.filter.specs.declared.Primitive.the-variants as P
 use Rattle.filter.specs.declared.Region.{Region}
 use Rattle.filter.specs.declared.Step.{Step}
 use Rattle.filter.specs.declared.Sheet.{Sheet}
+use Rattle.filter.specs.Kinds.{reads}
+use Rattle.filter.specs.Earlier.{Earlier}
+use Rattle.filter.specs.Bytes.{size}
 use Rattle.filter.specs.Steps.{resolved, blankStep, stepAt}
 
 -- a rectangle that ends on a canvas of w by h
@@ -33,27 +33,6 @@ pub record Canvas (w h : ℕ) : Type 0 where
   pub wide : w ≤ 1024
   pub some-high : 0 < h
   pub high : h ≤ 1024
-
--- an input that is no layer, or "a layer with a smaller number than the step's own"
-pub record Earlier (n : ℕ) (i : Input) : Type 0 where
-  pub below : (k : ℕ) → i ≡ Layer k → k < n
-
--- the inputs that a primitive reads
-unfoldable pub EarlierInputs : ℕ → Primitive → Type 0
-EarlierInputs n (P.Flood c) = Unit {0}
-EarlierInputs n (P.Offset i dx dy) = Earlier n i
-EarlierInputs n (P.Blur i dx dy) = Earlier n i
-EarlierInputs n (P.Erode i rx ry) = Earlier n i
-EarlierInputs n (P.Dilate i rx ry) = Earlier n i
-EarlierInputs n (P.Transform i m) = Earlier n i
-EarlierInputs n (P.Luminance i) = Earlier n i
-EarlierInputs n (P.Composite o i j) = Earlier n i × Earlier n j
-EarlierInputs n (P.Combine k i j) = Earlier n i × Earlier n j
-EarlierInputs n (P.Merge c is) =
-    Earlier n (is .first)
-    × (1 < c → Earlier n (is .second))
-    × (2 < c → Earlier n (is .third))
-    × (3 < c → Earlier n (is .fourth))
 
 -- a move by at most 1,024 pixels, one way
 pub record Near (d : Shift) : Type 0 where
@@ -74,22 +53,9 @@ Bounded (P.Composite o i j) = Unit {0}
 Bounded (P.Combine k i j) = AllowedArithmetic k
 Bounded (P.Merge c is) = (0 < c) × (c ≤ 4)
 
--- a flood's pixel is valid
-unfoldable pub ValidFlood : Primitive → Type 0
-ValidFlood (P.Flood c) = Valid c
-ValidFlood (P.Offset i dx dy) = Unit {0}
-ValidFlood (P.Blur i dx dy) = Unit {0}
-ValidFlood (P.Erode i rx ry) = Unit {0}
-ValidFlood (P.Dilate i rx ry) = Unit {0}
-ValidFlood (P.Transform i m) = Unit {0}
-ValidFlood (P.Luminance i) = Unit {0}
-ValidFlood (P.Composite o i j) = Unit {0}
-ValidFlood (P.Combine k i j) = Unit {0}
-ValidFlood (P.Merge c is) = Unit {0}
-
 -- step n as an accepted one
 pub record AcceptedStep (w h n : ℕ) (s : Step) : Type 0 where
-  pub inputs : EarlierInputs n (resolved s)
+  pub inputs : Earlier n (reads (resolved s))
   pub numbers : Bounded (resolved s)
   pub region : OnCanvas w h (s .region)
 
@@ -98,6 +64,15 @@ pub record AcceptedSheet (w h : ℕ) (steps : List Step) (count : ℕ) : Type 0 
   pub some : 0 < count
   pub few : count ≤ 16
   pub each : (n : ℕ) → n < count → AcceptedStep w h n (stepAt steps n)
+
+-- 1 to 5, over the lengths of source, workspace and scratch
+pub record AcceptedSizes (w h count source workspace scratch : ℕ) : Type 0 where
+  pub canvas : Canvas w h
+  pub source-is : source ≡ size w h
+  pub some : 0 < count
+  pub few : count ≤ 16
+  pub workspace-is : workspace ≡ count * size w h
+  pub scratch-is : scratch ≡ 2 * size w h
 
 -- no steps
 abbrev pub emptySheet : Sheet

@@ -1,5 +1,6 @@
 -- What a sheet means. In reading order: rectangles and pictures; how far a step looks; a step as an effect; layers and redraws;
--- the meaning of each kind and of a step; valid pictures; pictures as bytes; the refusal table; the worked examples.
+-- the meaning of each kind and of a step; valid pictures; pictures as bytes; the refusal table, and what it
+-- establishes; the worked examples.
 pub mod Rect
 pub mod Picture
 pub mod Reach
@@ -9,7 +10,10 @@ pub mod Kinds
 pub mod Steps
 pub mod Valid
 pub mod Bytes
+pub mod Change
 pub mod Answers
 pub mod Checks
+pub mod Earlier
 pub mod Accepted
+pub mod Damage
 pub mod Examples

@@ -2,7 +2,8 @@
 pub mod answers;
 mod basics;
 pub mod checks;
-pub mod rects;
+pub mod damage;
+pub mod rectangle;
 pub mod resolve;
 pub mod sheets;
 pub mod sizes;
@@ -101,6 +102,12 @@ pub enum Primitive {
     Composite(Operator, Input, Input),
     Combine(Arithmetic, Input, Input),
     Merge(usize, Inputs),
+}
+
+// The redraw rectangle of each layer, empty past the last step, and how many pixels they have.
+pub struct Damages {
+    pub rects: [Rect; 16],
+    pub count: usize,
 }
 
 // The answer to a call: done, or the first thing that is wrong, with its step or pixel.

@@ -17,7 +17,6 @@ use pixel::flood::flood;
 ghost use mathlib.Core.Path.{_≡_};
 ghost use Prim.Native.Nat.{_+_, _≤_};
 ghost use Rattle.filter.specs.Steps.{rowAt, matrixOf, arithmeticOf, fourInputs, resolved};
-ghost use Rattle.filter.specs.Accepted.{ValidFlood};
 
 // Five coefficients from number i on.
 fn row_at(step: Step, i: usize) -> Row
@@ -70,7 +69,7 @@ fn inputs(step: Step) -> Inputs
 }
 
 pub fn resolve(step: Step) -> Primitive
-    ensures { λ o. ⌜ (o ≡ resolved step) × ValidFlood o ⌝ }
+    ensures { λ o. ⌜ o ≡ resolved step ⌝ }
 {
     let kind = step.kind;
     match kind {

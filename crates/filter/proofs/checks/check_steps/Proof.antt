@@ -1,13 +1,12 @@
 -- `filter::checks::check_steps` meets its contract: the loop keeps the first refusal so far. Assumes nothing.
 use Rattle.filter.proofs.CodeAnswers.{first-more}
 use Rattle.filter.specs.Checks.{firstOf, stepAnswer}
-use Rattle.filter.specs.Steps.{blankStep, stepAt}
+use Rattle.filter.specs.Steps.{stepAt}
 use mathlib.Core.Path.{_≡_, refl, ap, _∙_}
 use Prim.Native.Nat.{_≤_, _-_}
 use native.Mathlib.Omega.{arith}
 use borrow.Author.Needs.{needs}
-use lib.ListN.{length, length-map}
-use Rattle.filter.proofs.CodeSteps.{getD-any}
+use Rattle.filter.proofs.CodeSheets.{step-at}
 use Rattle.filter.proofs.checks.check_steps.Statement.{statement}
 use Rattle.filter.proofs.checks.check_steps.Tie as tie
 
@@ -39,11 +38,10 @@ loop-less c = search needs
 loop-again : tie.Need-loop-again Inv-loop μ-loop
 loop-again c =
     let s = c .before .before .before .before in
-    let l : length (s .args .t3 .steps) ≡ 16 = simp length-map at (s .good .1 .1 .0 .1 .1 .0 .1 .0 .1) in
     let n = c .before .before .before .loop .n in (
       omega arith,
       first-more _ _ _ _ _ (c .before .before .before .loop .inv .1)
-          (ap (stepAnswer (s .args .width) (s .args .height) n) (getD-any (s .args .t3 .steps) n _ blankStep (omega arith)))
+          (ap (stepAnswer (s .args .width) (s .args .height) n) (step-at (s .args .t3) _ (s .good .1 .1 .0) n _ (omega arith)))
           (c .check-next .ensures),
     )
 

@@ -1,29 +1,22 @@
+-- `filter::resolve::matrix` meets its contract, row by row. Assumes nothing.
 use borrow.Author.Needs.{needs}
 use Rattle.filter.proofs.resolve.matrix.Statement.{statement}
 use Rattle.filter.proofs.resolve.matrix.Tie as tie
-use Rattle.filter.proofs.resolve.matrix.Reads as reads
-use Rattle.filter.proofs.resolve.matrix.Lts as lts
-use Rattle.filter.proofs.resolve.row_at.Reads as row-at-reads
 
--- src/resolve.rt:42:12
 row-at-requires : tie.Need-row-at-requires
 row-at-requires c κs = search needs
 
--- src/resolve.rt:43:12
 row-at-requires-2 : tie.Need-row-at-requires-2
 row-at-requires-2 c κs = search needs
 
--- src/resolve.rt:44:12
 row-at-requires-3 : tie.Need-row-at-requires-3
 row-at-requires-3 c κs = search needs
 
--- src/resolve.rt:45:12
 row-at-requires-4 : tie.Need-row-at-requires-4
 row-at-requires-4 c κs = search needs
 
--- src/resolve.rt:37:1
 returns : tie.Need-returns
-returns c = ?
+returns c = rw (c .before .before .before .row-at .ensures, c .before .before .row-at2 .ensures, c .before .row-at3 .ensures, c .row-at4 .ensures)
 
 pub matrix-spec : {M : Type 1} → statement M
 matrix-spec =

@@ -1,6 +1,5 @@
 -- `filter::steps::units_at` meets its contract: the units lie within the range, accepted or not. Assumes nothing.
-use Rattle.filter.proofs.CodeUnits.{units-are}
-use Rattle.filter.proofs.CodeUnits.{units-in-range}
+use Rattle.filter.proofs.CodeSteps.{units-are}
 use borrow.Author.Needs.{needs}
 use Rattle.filter.proofs.steps.units_at.Statement.{statement}
 use Rattle.filter.proofs.steps.units_at.Tie as tie
