@@ -1,15 +1,15 @@
 -- The redraw rectangles in code, and the loop that works them out one after another. Assumes nothing.
 use Prim.Native.Nat.{ℕ, zero, suc, _+_, _*_, _≤_, _<_}
-use mathlib.Core.Path.{_≡_, refl, sym, ap, ap₂, _∙_, fun-ext}
-use mathlib.Core.Bool.{true, false, cond}
-use mathlib.Core.List.{List, [], _∷_, map}
+use mathlib.Core.Path.{_≡_, refl, ap, ap₂, _∙_, fun-ext}
+use mathlib.Core.Bool.{cond}
+use mathlib.Core.List.{List, map}
 use native.Mathlib.Numerals.{add-one}
 use native.Mathlib.Omega.{arith}
 use native.Mathlib.Decide.{ℕ-discrete}
 use lib.Dec.{ltb, eqb}
 use lib.ListN.{length, getD, set, length-set, replicate}
 use lib.Seq.{getD-set-same, getD-set-other}
-use borrow.Author.Tests.{lt-ltb, le-ltb, eq-eqb, ne-eqb}
+use borrow.Author.Tests.{lt-ltb, eq-eqb, ne-eqb}
 use Rattle.filter.specs.declared.Input.{Input}
 use Rattle.filter.specs.declared.Input.the-variants.{Source, SourceAlpha, Layer}
 use Rattle.filter.specs.declared.Inputs.{Inputs}
@@ -17,10 +17,9 @@ use Rattle.filter.specs.declared.Rect.{Rect}
 use Rattle.filter.specs.declared.Step.{Step}
 use Rattle.filter.specs.Rect.{canvasOf, empty, meet, join, area}
 use Rattle.filter.specs.Reach.{window, still, grow}
-use Rattle.filter.specs.Effect.{Effect}
 use Rattle.filter.specs.Kinds.{here, firstInputs}
 use Rattle.filter.specs.Layers.{named, replaced, reached, damage, damages, count}
-use Rattle.filter.specs.Steps.{effectOf, effectsOf, stepAt}
+use Rattle.filter.specs.Steps.{effectsOf}
 use Rattle.filter.specs.Accepted.{Within}
 use Rattle.filter.specs.Damage.{rectOf, AllWithin}
 

@@ -8,7 +8,7 @@ use lib.Dec.{ltb, leb, eqb}
 use borrow.Author.Tests.{ltb-false, leb-true, eqb-true}
 use Rattle.window.specs.Window as W
 use Rattle.filter.specs.Picture.{Plane}
-use Rattle.filter.specs.Reach.{Axis, Sees, span}
+use Rattle.filter.specs.Reach.{Sees, span}
 
 -- a rule for the places of a line
 abbrev pub Rule : Type 0
@@ -31,7 +31,8 @@ fold-same op e zero f g h = refl
 fold-same op e (suc n) f g h = ap₂ op (fold-same op e n f g (λ t l. h t (omega arith))) (h n (omega arith))
 
 -- the window's place t, read from x
-behind-same : (back ahead x t : ℕ) (f g : ℕ → ℕ) → t < back + ahead + 1 → ((u : ℕ) → Sees (span back ahead) x u → f u ≡ g u) → W.behind back f (x + t) ≡ W.behind back g (x + t)
+behind-same : (back ahead x t : ℕ) (f g : ℕ → ℕ) → t < back + ahead + 1 → ((u : ℕ) → Sees (span back ahead) x u → f u ≡ g u)
+    → W.behind back f (x + t) ≡ W.behind back g (x + t)
 unfolding W.behind
 behind-same back ahead x t f g l h = go (leb back (x + t)) refl
   where
@@ -59,7 +60,8 @@ passes-looks n d = go (ltb d 2) (eqb (d % 2) 1) refl refl
     three : (b₁ a₁ b₂ a₂ b₃ a₃ s : ℕ) → b₁ + b₂ + b₃ ≤ s → a₁ + a₂ + a₃ ≤ s → Looks (λ f. W.box n b₃ a₃ (W.box n b₂ a₂ (W.box n b₁ a₁ f))) s s
     three b₁ a₁ b₂ a₂ b₃ a₃ s h k = looks-wider h k (looks-then (looks-then (box-looks n b₁ a₁) (box-looks n b₂ a₂)) (box-looks n b₃ a₃))
 
-    go : (small odd : Bool) → ltb d 2 ≡ small → eqb (d % 2) 1 ≡ odd → let s : ℕ = cond odd (3 * ((d - 1) / 2)) (3 * (d / 2) - 1) in Looks (W.passesOf n small odd (d / 2)) s s
+    go : (small odd : Bool) → ltb d 2 ≡ small → eqb (d % 2) 1 ≡ odd
+        → let s : ℕ = cond odd (3 * ((d - 1) / 2)) (3 * (d / 2) - 1) in Looks (W.passesOf n small odd (d / 2)) s s
     go true odd l o = λ f g x e. e x (record { low = omega arith; high = omega arith })
     go false true l o = let m : d % 2 ≡ 1 = eqb-true _ _ o in three (d / 2) (d / 2) (d / 2) (d / 2) (d / 2) (d / 2) _ (omega arith) (omega arith)
     go false false l o = let m : 2 ≤ d = ltb-false _ _ l in three (d / 2) (d / 2 - 1) (d / 2 - 1) (d / 2) (d / 2) (d / 2) _ (omega arith) (omega arith)

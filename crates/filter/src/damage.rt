@@ -29,7 +29,7 @@ ghost use Rattle.filter.specs.Reach.{window, still, span, moved, grow};
 ghost use Rattle.filter.specs.Kinds.{radius, here, around, firstInputs, reads};
 ghost use Rattle.filter.specs.Layers.{reached as reachedBy, damage, damages as damagesOf, count as countOf};
 ghost use Rattle.filter.specs.Steps.{resolved, effectOf, effectsOf};
-ghost use Rattle.filter.specs.Accepted.{Within, OnCanvas, Near, Bounded, Canvas, AcceptedSheet};
+ghost use Rattle.filter.specs.Accepted.{Within, OnCanvas, Near, Bounded, AcceptedSheet};
 ghost use Rattle.filter.specs.Damage.{rectOf, AllWithin};
 
 // How far a blur of d reaches to either side.

@@ -4,7 +4,7 @@ use Rattle.filter.specs.Damage.{rectOf}
 use Rattle.filter.specs.Kinds.{reads}
 use Rattle.filter.specs.Layers.{reached}
 use Rattle.filter.specs.Rect.{canvasOf, meet}
-use mathlib.Core.Path.{_≡_, refl}
+use mathlib.Core.Path.{_≡_}
 use borrow.Author.Needs.{needs}
 use Rattle.filter.proofs.damage.damage_of.Statement.{statement}
 use Rattle.filter.proofs.damage.damage_of.Tie as tie

@@ -2,17 +2,14 @@
 use Rattle.filter.proofs.CodeSheets.{step-at}
 use Rattle.filter.proofs.CodeDamage.{Going, going-none, going-more, within-more}
 use Rattle.filter.specs.Damage.{rectOf, AllWithin}
-use Rattle.filter.specs.Accepted.{OnCanvas, Bounded, Within}
-use Rattle.filter.specs.Steps.{blankStep, stepAt, resolved, effectOf}
+use Rattle.filter.specs.Accepted.{OnCanvas, Within}
+use Rattle.filter.specs.Steps.{stepAt, effectOf}
 use Rattle.filter.specs.Layers.{damage}
-use Rattle.filter.specs.Rect.{canvasOf, boundsOf}
+use Rattle.filter.specs.Rect.{canvasOf}
 use Rattle.filter.specs.declared.Input.the-variants.{Layer}
-use Rattle.filter.specs.declared.Region.{Region}
 use Rattle.filter.specs.declared.Step.{Step}
-use Rattle.filter.specs.declared.Rect.{Rect}
-use lib.ListN.{length}
-use mathlib.Core.Path.{_≡_, refl, sym, ap, subst, _∙_}
-use Prim.Native.Nat.{ℕ, _≤_, _-_}
+use mathlib.Core.Path.{_≡_, ap, _∙_}
+use Prim.Native.Nat.{_≤_, _-_}
 use native.Mathlib.Omega.{arith}
 use borrow.Author.Needs.{needs}
 use Rattle.filter.proofs.damage.damages.Statement.{statement}

@@ -1,7 +1,6 @@
 -- `filter::damage::reached_merge` meets its contract: as many inputs as there are. Assumes nothing.
 use Rattle.filter.specs.Damage.{rectOf}
 use Rattle.filter.proofs.CodeDamage.{merge-reached}
-use mathlib.Core.Path.{_∙_, ap}
 use borrow.Author.Needs.{needs}
 use Rattle.filter.proofs.damage.reached_merge.Statement.{statement}
 use Rattle.filter.proofs.damage.reached_merge.Tie as tie
