@@ -1,7 +1,7 @@
--- From an answer that is Done to what the renderer may go by. Assumes nothing.
+-- From an accepted answer to what the renderer may go by. Assumes nothing.
 use Prim.Native.Nat.{ℕ, _+_, _*_, _≤_, _<_}
 use mathlib.Core.Path.{_≡_, refl, ap}
-use mathlib.Core.Bool.{true, _&&_}
+use mathlib.Core.Bool.{true, _&&_, false≢true}
 use mathlib.Core.Logic.{_⊎_, inl, inr, ⊎-elim}
 use mathlib.Core.List.{List}
 use native.Mathlib.Omega.{arith}
@@ -25,10 +25,28 @@ use Rattle.filter.proofs.Units.{units-in-range}
 use Rattle.filter.proofs.Earlier.{both-true, inputs-earlier}
 use Rattle.filter.proofs.Refusals.{unless-accepted, first-accepted, step-accepted}
 
--- an accepted answer, as a test
-accepted : (a : Answer) → a ≡ A.Done → accepted? a ≡ true
+-- accepted is Done
+pub accepted-done : (a : Answer) → accepted? a ≡ true → a ≡ A.Done
 unfolding accepted?
-accepted a e = ap accepted? e
+accepted-done A.Done e = refl
+accepted-done A.Canvas e = absurd (false≢true e)
+accepted-done A.Source e = absurd (false≢true e)
+accepted-done A.StepCount e = absurd (false≢true e)
+accepted-done A.Workspace e = absurd (false≢true e)
+accepted-done A.Scratch e = absurd (false≢true e)
+accepted-done A.Rectangle e = absurd (false≢true e)
+accepted-done (A.Input n) e = absurd (false≢true e)
+accepted-done (A.NotFinite n) e = absurd (false≢true e)
+accepted-done (A.Negative n) e = absurd (false≢true e)
+accepted-done (A.OutOfRange n) e = absurd (false≢true e)
+accepted-done (A.NotWhole n) e = absurd (false≢true e)
+accepted-done (A.WideBox n) e = absurd (false≢true e)
+accepted-done (A.OutsideCanvas n) e = absurd (false≢true e)
+accepted-done (A.AboveAlpha p) e = absurd (false≢true e)
+
+pub done-accepted : (a : Answer) → a ≡ A.Done → accepted? a ≡ true
+unfolding accepted?
+done-accepted a e = ap accepted? e
 
 -- the numbers, by kind; also of a refused number, which counts as 0
 module _ (s : Step) where
@@ -80,12 +98,13 @@ module _ (s : Step) where
           record { k1 = a 0; k2 = a 1; k3 = a 2; k4 = a 3 }
       go (K.Merge n) e m = let t = both-true (ltb 0 n) (leb n 4) m in (ltb-true 0 n (t .0), leb-true n 4 (t .1))
 
-pub done-region : (w h : ℕ) (g : Region) → onCanvas? w h g ≡ true → OnCanvas w h g
-done-region w h g e =
+region-on : (w h : ℕ) (g : Region) → onCanvas? w h g ≡ true → OnCanvas w h g
+region-on w h g e =
     let t = both-true (leb (g .x + g .width) w) (leb (g .y + g .height) h) e in
     record { right = leb-true _ _ (t .0); bottom = leb-true _ _ (t .1) }
 
-accepted-step : (w h n : ℕ) (s : Step) → accepted? (stepAnswer w h n s) ≡ true → AcceptedStep w h n s
+-- what `check_step` answers
+pub accepted-step : (w h n : ℕ) (s : Step) → accepted? (stepAnswer w h n s) ≡ true → AcceptedStep w h n s
 unfolding inputs?
 accepted-step w h n s e =
     let p = step-accepted w h n s e in
@@ -95,43 +114,39 @@ accepted-step w h n s e =
       region = record { right = p .across; bottom = p .down };
     }
 
-accepted-steps : (w h : ℕ) (steps : List Step) (count : ℕ) → accepted? (stepsAnswer w h steps count) ≡ true → (n : ℕ) → n < count → AcceptedStep w h n (stepAt steps n)
+pub accepted-steps : (w h : ℕ) (steps : List Step) (count : ℕ) → accepted? (stepsAnswer w h steps count) ≡ true → (n : ℕ) → n < count → AcceptedStep w h n (stepAt steps n)
 accepted-steps w h steps count e n l = accepted-step w h n (stepAt steps n) (first-accepted (λ k. stepAnswer w h k (stepAt steps k)) count n e l)
 
--- what `check_step` answers
-pub done-step : (w h n : ℕ) (s : Step) → stepAnswer w h n s ≡ A.Done → AcceptedStep w h n s
-done-step w h n s e = accepted-step w h n s (accepted _ e)
-
-pub done-canvas : (w h : ℕ) → canvas? w h ≡ true → Canvas w h
-done-canvas w h e =
+pub canvas-within : (w h : ℕ) → canvas? w h ≡ true → Canvas w h
+canvas-within w h e =
     let a = both-true (ltb 0 w) (leb w 1024 && (ltb 0 h && leb h 1024)) e in
     let b = both-true (leb w 1024) (ltb 0 h && leb h 1024) (a .1) in
     let c = both-true (ltb 0 h) (leb h 1024) (b .1) in
     record { some-wide = ltb-true 0 w (a .0); wide = leb-true w 1024 (b .0); some-high = ltb-true 0 h (c .0); high = leb-true h 1024 (c .1) }
 
-pub done-count : (n : ℕ) → count? n ≡ true → (0 < n) × (n ≤ 16)
-done-count n e = let t = both-true (ltb 0 n) (leb n 16) e in (ltb-true 0 n (t .0), leb-true n 16 (t .1))
+pub count-within : (n : ℕ) → count? n ≡ true → (0 < n) × (n ≤ 16)
+count-within n e = let t = both-true (ltb 0 n) (leb n 16) e in (ltb-true 0 n (t .0), leb-true n 16 (t .1))
 
 -- what `check_sheet` answers
-pub done-sheet : (w h : ℕ) (steps : List Step) (count : ℕ) → Canvas w h → unless (count? count) A.StepCount (stepsAnswer w h steps count) ≡ A.Done → AcceptedSheet w h steps count
+pub accepted-sheet : (w h : ℕ) (steps : List Step) (count : ℕ) → Canvas w h → accepted? (unless (count? count) A.StepCount (stepsAnswer w h steps count)) ≡ true → AcceptedSheet w h steps count
 unfolding accepted?
-done-sheet w h steps count c e =
-    let t = unless-accepted (count? count) A.StepCount (stepsAnswer w h steps count) refl (accepted _ e) in
-    let n = done-count count (t .0) in
+accepted-sheet w h steps count c e =
+    let t = unless-accepted (count? count) A.StepCount (stepsAnswer w h steps count) refl e in
+    let n = count-within count (t .0) in
     record { canvas = c; some = n .0; few = n .1; each = accepted-steps w h steps count (t .1) }
 
 -- what `check_sizes` answers
-pub done-sizes : (w h count source workspace scratch : ℕ) → sizesAnswer w h count source workspace scratch ≡ A.Done → AcceptedSizes w h count source workspace scratch
+pub accepted-sizes : (w h count source workspace scratch : ℕ) → accepted? (sizesAnswer w h count source workspace scratch) ≡ true → AcceptedSizes w h count source workspace scratch
 unfolding sizesAnswer accepted?
-done-sizes w h count source workspace scratch e =
-    let one = unless-accepted (canvas? w h) A.Canvas _ refl (accepted _ e) in
+accepted-sizes w h count source workspace scratch e =
+    let one = unless-accepted (canvas? w h) A.Canvas _ refl e in
     let two = unless-accepted (eqb source (size w h)) A.Source _ refl (one .1) in
     let three = unless-accepted (count? count) A.StepCount _ refl (two .1) in
     let four = unless-accepted (eqb workspace (count * size w h)) A.Workspace _ refl (three .1) in
     let five = unless-accepted (eqb scratch (2 * size w h)) A.Scratch A.Done refl (four .1) in
-    let c = done-count count (three .0) in
+    let c = count-within count (three .0) in
     record {
-      canvas = done-canvas w h (one .0);
+      canvas = canvas-within w h (one .0);
       source-is = eqb-true _ _ (two .0);
       some = c .0;
       few = c .1;
@@ -140,6 +155,6 @@ done-sizes w h count source workspace scratch e =
     }
 
 -- what `check_rectangle` answers
-pub done-rectangle : (w h : ℕ) (g : Region) → rectangleAnswer w h (redraw g) ≡ A.Done → OnCanvas w h g
+pub accepted-rectangle : (w h : ℕ) (g : Region) → accepted? (rectangleAnswer w h (redraw g)) ≡ true → OnCanvas w h g
 unfolding accepted?
-done-rectangle w h g e = done-region w h g (unless-accepted (onCanvas? w h g) A.Rectangle A.Done refl (accepted _ e) .0)
+accepted-rectangle w h g e = region-on w h g (unless-accepted (onCanvas? w h g) A.Rectangle A.Done refl e .0)

@@ -14,14 +14,16 @@ use Rattle.filter.specs.declared.Input.{Input}
 use Rattle.filter.specs.declared.Input.the-variants.{Source, SourceAlpha, Layer}
 use Rattle.filter.specs.declared.Inputs.{Inputs}
 use Rattle.filter.specs.declared.Rect.{Rect}
+use Rattle.filter.specs.declared.Region.{Region}
 use Rattle.filter.specs.declared.Step.{Step}
 use Rattle.filter.specs.Rect.{canvasOf, empty, meet, join, area}
 use Rattle.filter.specs.Reach.{window, still, grow}
 use Rattle.filter.specs.Kinds.{here, firstInputs}
 use Rattle.filter.specs.Layers.{named, replaced, reached, damage, damages, count}
-use Rattle.filter.specs.Steps.{effectsOf}
-use Rattle.filter.specs.Accepted.{Within}
+use Rattle.filter.specs.Steps.{effectOf, effectsOf, stepAt}
+use Rattle.filter.specs.Accepted.{Within, OnCanvas}
 use Rattle.filter.specs.Damage.{rectOf, AllWithin}
+use Rattle.filter.proofs.Joins.{damages-within}
 
 -- a merge's inputs, as many as there are
 abbrev joined : (Input → Rect) → Input → Rect → Rect
@@ -45,8 +47,15 @@ merge-reached (suc (suc (suc (suc n)))) is z a b c d ed ec eb ea =
 pub meet-within : (w h : ℕ) (p q r : Rect) → r ≡ meet (meet (canvasOf w h) p) q → Within w h r
 meet-within w h p q r e = record { right = omega (arith, ap (λ (k : Rect). k .right) e); bottom = omega (arith, ap (λ (k : Rect). k .bottom) e) }
 
+-- the largest canvas holds what a smaller one does
 pub within-more : (w h : ℕ) (r : Rect) → w ≤ 1024 → h ≤ 1024 → Within w h r → Within 1024 1024 r
 within-more w h r a b k = record { right = omega arith; bottom = omega arith }
+
+pub all-more : (w h : ℕ) (r : Rect) (zs : List Rect) → w ≤ 1024 → h ≤ 1024 → AllWithin w h r zs → AllWithin 1024 1024 r zs
+all-more w h r zs a b k = record { each = λ i. within-more w h _ a b (k .each i) }
+
+pub region-more : (w h : ℕ) (g : Region) → w ≤ 1024 → h ≤ 1024 → OnCanvas w h g → OnCanvas 1024 1024 g
+region-more w h g a b k = record { right = omega arith; bottom = omega arith }
 
 getD-empty : (n k : ℕ) → getD (replicate n empty) k empty ≡ empty
 getD-empty zero k = refl
@@ -61,16 +70,14 @@ module _ (w h : ℕ) (steps : List Step) (r : Rect) where
   pub record Going (n : ℕ) (zs : List Rect) (total : ℕ) : Type 0 where
     pub slots : length zs ≡ 16
     pub each : (i : Input) → rectOf r zs i ≡ rects n i
-    pub within : AllWithin w h r zs
     pub sum : total ≡ count (canvasOf w h) (effectsOf w h steps) r n
     pub few : total ≤ n * 1048576
 
-  pub going-none : (z : Rect) → z ≡ empty → Within w h r → Going 0 (replicate 16 z) 0
+  pub going-none : (z : Rect) → z ≡ empty → Going 0 (replicate 16 z) 0
   unfolding damages named count rectOf
-  going-none z e k = rw e record {
+  going-none z e = rw e record {
     slots = refl;
     each = each;
-    within = record { each = within };
     sum = refl;
     few = omega arith;
   }
@@ -80,14 +87,19 @@ module _ (w h : ℕ) (steps : List Step) (r : Rect) where
       each SourceAlpha = refl
       each (Layer k) = getD-empty 16 k
 
-      within : (i : Input) → Within w h (rectOf r (replicate 16 empty) i)
-      within Source = k
-      within SourceAlpha = k
-      within (Layer j) = rw (getD-empty 16 j) record { right = omega arith; bottom = omega arith }
+  pub going-within : (n : ℕ) (zs : List Rect) (total : ℕ) → Going n zs total → Within w h r → AllWithin w h r zs
+  going-within n zs total G k = record { each = each }
+    where
+      each : (i : Input) → Within w h (rectOf r zs i)
+      each i = let t = damages-within (canvasOf w h) (effectsOf w h steps) r (k .right, k .bottom) n i in rw (G .each i) record { right = t .0; bottom = t .1 }
 
-  module _ (n : ℕ) (zs : List Rect) (total : ℕ) (G : Going n zs total) (small : n < 16) (z : Rect) (e : z ≡ damage (canvasOf w h) (effectsOf w h steps n) (rectOf r zs)) where
+  -- one more step, whose rectangle is worked out from those so far
+  module _ (n : ℕ) (zs : List Rect) (total : ℕ) (G : Going n zs total) (small : n < 16) (s : Step) (es : s ≡ stepAt steps n) (z : Rect) (ez : z ≡ damage (canvasOf w h) (effectOf w h s) (rectOf r zs)) where
     new-is : z ≡ damage (canvasOf w h) (effectsOf w h steps n) (rects n)
-    new-is = e ∙ ap (damage (canvasOf w h) (effectsOf w h steps n)) (fun-ext (G .each))
+    new-is =
+        ez
+        ∙ ap (λ (x : Step). damage (canvasOf w h) (effectOf w h x) (rectOf r zs)) es
+        ∙ ap (damage (canvasOf w h) (effectsOf w h steps n)) (fun-ext (G .each))
 
     each-more : (i : Input) → rectOf r (set zs n z) i ≡ rects (suc n) i
     unfolding rectOf damages replaced
@@ -99,22 +111,11 @@ module _ (w h : ℕ) (steps : List Step) (r : Rect) where
         go (yes q) = rw (q, getD-set-same zs n z empty (omega (arith, G .slots)), eq-eqb n n refl) new-is
         go (no ne) = rw (getD-set-other zs n k z empty ne, ne-eqb k n ne) (G .each (Layer k))
 
-    within-set : Within w h z → (i : Input) → Within w h (rectOf r (set zs n z) i)
-    unfolding rectOf
-    within-set s Source = G .within .each Source
-    within-set s SourceAlpha = G .within .each SourceAlpha
-    within-set s (Layer k) = go (ℕ-discrete k n)
-      where
-        go : Dec (k ≡ n) → Within w h (getD (set zs n z) k empty)
-        go (yes q) = rw (q, getD-set-same zs n z empty (omega (arith, G .slots))) s
-        go (no ne) = rw (getD-set-other zs n k z empty ne) (G .within .each (Layer k))
-
-    pub going-more : (a : ℕ) → Within w h z → a ≡ area z → a ≤ 1048576 → Going (n + 1) (set zs n z) (total + a)
+    pub going-more : (a : ℕ) → a ≡ area z → a ≤ 1048576 → Going (n + 1) (set zs n z) (total + a)
     unfolding count
-    going-more a s ea la = record {
+    going-more a ea la = record {
       slots = length-set zs n z ∙ G .slots;
       each = λ i. rw add-one (each-more i);
-      within = record { each = within-set s };
       sum = rw add-one (ap₂ _+_ (G .sum) (ea ∙ ap area new-is));
       few = omega (arith, G .few);
     }

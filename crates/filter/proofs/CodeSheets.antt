@@ -33,7 +33,7 @@ kind-bytes (K.Composite o) vs p = tt
 kind-bytes K.Arithmetic vs p = tt
 kind-bytes (K.Merge n) vs p = tt
 
-step-bytes : (s : Step) (vs : List Val) → Is steps.the-row s vs → FloodBytes (s .kind)
+pub step-bytes : (s : Step) (vs : List Val) → Is steps.the-row s vs → FloodBytes (s .kind)
 step-bytes s vs p = kind-bytes (s .kind) _ (p .1 .1 .0)
 
 -- each element of the array

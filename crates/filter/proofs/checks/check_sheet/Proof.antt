@@ -1,5 +1,5 @@
 -- `filter::checks::check_sheet` meets its contract: the number of steps comes first. Assumes nothing.
-use Rattle.filter.proofs.CodeAccepted.{done-count}
+use Rattle.filter.proofs.CodeAccepted.{count-within}
 use borrow.Author.Tests.{not-true, not-false}
 use mathlib.Core.Path.{sym, _∙_}
 use borrow.Author.Needs.{needs}
@@ -13,7 +13,7 @@ returns : tie.Need-returns
 returns c = rw (sym (c .before .is-count .ensures) ∙ not-true _ (c .if1 .taken))
 
 check-steps-requires : tie.Need-check-steps-requires
-check-steps-requires c κs = done-count _ (sym (c .before .is-count .ensures) ∙ not-false _ (c .if1 .left)) .1
+check-steps-requires c κs = count-within _ (sym (c .before .is-count .ensures) ∙ not-false _ (c .if1 .left)) .1
 
 returns-2 : tie.Need-returns-2
 returns-2 c = rw (sym (c .before .before .is-count .ensures) ∙ not-false _ (c .before .if1 .left)) (c .check-steps .ensures)

@@ -1,14 +1,11 @@
 -- `filter::damage::damages` meets its contract: the loop keeps the rectangles so far and the sum of their areas. Assumes nothing.
 use Rattle.filter.proofs.CodeSheets.{step-at}
-use Rattle.filter.proofs.CodeDamage.{Going, going-none, going-more, within-more}
-use Rattle.filter.specs.Damage.{rectOf, AllWithin}
-use Rattle.filter.specs.Accepted.{OnCanvas, Within}
-use Rattle.filter.specs.Steps.{stepAt, effectOf}
-use Rattle.filter.specs.Layers.{damage}
-use Rattle.filter.specs.Rect.{canvasOf}
+use Rattle.filter.proofs.CodeDamage.{Going, going-none, going-more, going-within, within-more, all-more, region-more}
+use Rattle.filter.specs.Rect.{boundsOf}
+use Rattle.filter.specs.Damage.{rectOf}
+use Rattle.filter.specs.Accepted.{Within}
 use Rattle.filter.specs.declared.Input.the-variants.{Layer}
-use Rattle.filter.specs.declared.Step.{Step}
-use mathlib.Core.Path.{_≡_, ap, _∙_}
+use mathlib.Core.Path.{_≡_}
 use Prim.Native.Nat.{_≤_, _-_}
 use native.Mathlib.Omega.{arith}
 use borrow.Author.Needs.{needs}
@@ -28,10 +25,7 @@ none-requires : tie.Need-none-requires Inv-loop μ-loop
 none-requires c κs = search needs
 
 loop-holds : tie.Need-loop-holds Inv-loop μ-loop
-loop-holds c =
-    let s = c .before .before in
-    let k : Within (s .args .width) (s .args .height) (c .before .bounds .result) = rw (c .before .bounds .ensures) record { right = s .pre .1 .right; bottom = s .pre .1 .bottom } in
-    (omega arith, going-none _ _ _ _ _ (c .none .ensures) k)
+loop-holds c = (omega arith, going-none _ _ _ _ _ (c .none .ensures))
 
 mul-step : tie.Need-mul-step Inv-loop μ-loop
 mul-step c = search needs
@@ -42,13 +36,15 @@ element-copy-out-step c = omega (arith, c .before .before .before .before .pre .
 step-damage-requires : tie.Need-step-damage-requires Inv-loop μ-loop
 step-damage-requires c κs =
     let s = c .before .before .before .before .before in
-    let n = c .before .before .loop .n in
-    let A = s .pre .0 .each n (c .before .loop-test .taken) in
-    let few = s .pre .0 .few in
+    let w = s .args .width in
+    let h = s .args .height in
+    let L = c .before .before .loop in
+    let A = s .pre .0 .each (L .n) (c .before .loop-test .taken) in
     let k = s .pre .0 .canvas in
-    let on : OnCanvas 1024 1024 (stepAt (s .args .t3 .steps) n .region) = record { right = omega (arith, A .region .right, k .wide); bottom = omega (arith, A .region .bottom, k .high) } in
-    let all : AllWithin 1024 1024 (c .before .before .before .before .bounds .result) (c .before .before .loop .rects) = record { each = λ i. within-more _ _ _ (k .wide) (k .high) (c .before .before .loop .inv .1 .within .each i) } in
-    rw (step-at (s .args .t3) _ (s .good .1 .1 .0) n _ (omega arith)) (A .numbers, on, all)
+    let few = s .pre .0 .few in
+    let source : Within w h (c .before .before .before .before .bounds .result) = rw (c .before .before .before .before .bounds .ensures) record { right = s .pre .1 .right; bottom = s .pre .1 .bottom } in
+    let rects = going-within w h (s .args .t3 .steps) _ (L .n) (L .rects) (L .total) (L .inv .1) source in
+    rw (step-at (s .args .t3) _ (s .good .1 .1 .0) (L .n) _ (omega arith)) (A .numbers, region-more _ _ _ (k .wide) (k .high) (A .region), all-more _ _ _ _ (k .wide) (k .high) rects)
 
 mul-rects : tie.Need-mul-rects Inv-loop μ-loop
 mul-rects c = search needs
@@ -71,14 +67,11 @@ loop-less c = search needs
 loop-again : tie.Need-loop-again Inv-loop μ-loop
 loop-again c =
     let s = c .before .before .before .before .before .before .before in
-    let w = s .args .width in
-    let h = s .args .height in
     let L = c .before .before .before .before .loop in
-    let few = s .pre .0 .few in
-    let source = c .before .before .before .before .before .before .bounds .result in
-    let e = c .before .step-damage .ensures .0 ∙ ap (λ (x : Step). damage (canvasOf w h) (effectOf w h x) (rectOf source (L .rects))) (step-at (s .args .t3) _ (s .good .1 .1 .0) (L .n) _ (omega arith)) in (
+    let few = s .pre .0 .few in (
       omega arith,
-      going-more w h (s .args .t3 .steps) source (L .n) (L .rects) (L .total) (L .inv .1) (omega arith) _ e _ (c .before .step-damage .ensures .1) (c .area .ensures .0) (c .area .ensures .1),
+      going-more (s .args .width) (s .args .height) (s .args .t3 .steps) _ (L .n) (L .rects) (L .total) (L .inv .1) (omega arith) _
+          (step-at (s .args .t3) _ (s .good .1 .1 .0) (L .n) _ (omega arith)) _ (c .before .step-damage .ensures .0) _ (c .area .ensures .0) (c .area .ensures .1),
     )
 
 returns : tie.Need-returns Inv-loop μ-loop
@@ -88,7 +81,8 @@ returns c =
     let L = c .before .loop in
     let e : L .n ≡ s .args .t3 .count = omega arith in
     let G = rw (e, c .before .before .before .bounds .ensures) at (L .inv .1) in
-    ((λ n. G .each (Layer n)), (G .sum, G .within))
+    let k : Within (s .args .width) (s .args .height) (boundsOf (s .args .named)) = record { right = s .pre .1 .right; bottom = s .pre .1 .bottom } in
+    ((λ n. G .each (Layer n)), (G .sum, going-within _ _ _ _ _ _ _ G k))
 
 pub damages-spec : {M : Type 1} → statement M
 damages-spec =

@@ -1,6 +1,6 @@
 -- `filter::sizes::check_sizes` meets its contract, in the order of its tests. Assumes nothing.
 use mathlib.Core.Bool.{true, false}
-use Rattle.filter.proofs.CodeAccepted.{done-canvas, done-count}
+use Rattle.filter.proofs.CodeAccepted.{canvas-within, count-within}
 use Rattle.filter.specs.Checks.{canvas?, count?, sizesAnswer}
 use Rattle.filter.specs.Bytes.{size}
 use borrow.Author.Tests.{not-true, not-false, eq-eqb, ne-eqb}
@@ -34,7 +34,7 @@ unfolding sizesAnswer
 returns c = rw (sym (c .before .is-canvas .ensures) ∙ not-true _ (c .if1 .taken))
 
 picture-size-requires : tie.Need-picture-size-requires
-picture-size-requires c κs = let k = done-canvas _ _ (canvas-good c) in (k .wide, k .high)
+picture-size-requires c κs = let k = canvas-within _ _ (canvas-good c) in (k .wide, k .high)
 
 returns-2 : tie.Need-returns-2
 unfolding sizesAnswer
@@ -52,7 +52,7 @@ returns-3 c = rw (canvas-good (c .before .before .before .before), source-good (
 
 mul-if4 : tie.Need-mul-if4
 mul-if4 c =
-    omega (arith, mul-le-mul-right (c .before .before .before .picture-size .result) (done-count (c .before .before .before .before .before .before .args .count) (count-good c) .1), c .before .before .before .picture-size .ensures .1)
+    omega (arith, mul-le-mul-right (c .before .before .before .picture-size .result) (count-within (c .before .before .before .before .before .before .args .count) (count-good c) .1), c .before .before .before .picture-size .ensures .1)
 
 returns-4 : tie.Need-returns-4
 unfolding sizesAnswer
