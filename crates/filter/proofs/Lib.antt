@@ -1,4 +1,4 @@
--- What follows from the rules of specs/.
+-- What follows from the rules of specs/; then the laws that the code's proofs cite.
 pub mod Rects
 pub mod Patches
 pub mod Windows
@@ -16,3 +16,9 @@ pub mod Validity
 pub mod ValidLayers
 pub mod Scans
 pub mod Refusals
+pub mod CodeRects
+pub mod CodeSteps
+pub mod CodeAnswers
+pub mod CodeSheets
+pub mod CodeAccepted
+pub mod CodeDamage

@@ -1,6 +1,6 @@
 -- What a sheet means. In reading order: rectangles and pictures; how far a step looks; a step as an effect; layers and redraws;
--- the meaning of each kind and of a step; valid pictures; pictures as bytes, and the two sources of a redraw; the refusal table, and what a
--- step may read; the worked examples.
+-- the meaning of each kind and of a step; valid pictures; pictures as bytes, and the two sources of a redraw; the refusal table, what a
+-- step may read, what the checks establish, and the rectangles as the code holds them; the worked examples.
 pub mod Rect
 pub mod Picture
 pub mod Reach
@@ -15,4 +15,5 @@ pub mod Answers
 pub mod Checks
 pub mod Earlier
 pub mod Accepted
+pub mod Damage
 pub mod Examples

@@ -1,5 +1,14 @@
 // What a sheet of filter steps is: document 01's sheet, step, region, input and answer.
-use number::Fault;
+pub mod answers;
+mod basics;
+pub mod checks;
+pub mod damage;
+pub mod rectangle;
+pub mod resolve;
+pub mod sheets;
+pub mod sizes;
+pub mod steps;
+
 use number::Number;
 use pixel::Arithmetic;
 use pixel::Matrix;
@@ -93,6 +102,12 @@ pub enum Primitive {
     Composite(Operator, Input, Input),
     Combine(Arithmetic, Input, Input),
     Merge(usize, Inputs),
+}
+
+// The redraw rectangle of each layer, empty past the last step, and how many pixels they have.
+pub struct Damages {
+    pub rects: [Rect; 16],
+    pub count: usize,
 }
 
 // The answer to a call: done, or the first thing that is wrong, with its step or pixel.

@@ -1,0 +1,33 @@
+-- `filter::damage::damage_of` meets its contract, call by call. Assumes nothing.
+use Rattle.filter.proofs.CodeDamage.{meet-within}
+use Rattle.filter.specs.Damage.{rectOf}
+use Rattle.filter.specs.Kinds.{reads}
+use Rattle.filter.specs.Layers.{reached}
+use Rattle.filter.specs.Rect.{canvasOf, meet}
+use mathlib.Core.Path.{_≡_}
+use borrow.Author.Needs.{needs}
+use Rattle.filter.proofs.damage.damage_of.Statement.{statement}
+use Rattle.filter.proofs.damage.damage_of.Tie as tie
+
+canvas-requires : tie.Need-canvas-requires
+canvas-requires c κs = search needs
+
+meet-requires : tie.Need-meet-requires
+meet-requires c κs = search needs
+
+reached-requires : tie.Need-reached-requires
+reached-requires c κs = search needs
+
+meet-requires-2 : tie.Need-meet-requires-2
+meet-requires-2 c κs = search needs
+
+returns : tie.Need-returns
+returns c =
+    let s = c .before .before .before .before .args in
+    let e : c .meet2 .result ≡ meet (meet (canvasOf (s .width) (s .height)) (s .region)) (reached (reads (s .primitive)) (rectOf (s .named) (s .rects))) =
+    rw (c .meet2 .ensures, c .before .reached .ensures, c .before .before .meet .ensures, c .before .before .before .canvas .ensures) in
+    (e, meet-within _ _ _ _ _ e)
+
+pub damage-of-spec : {M : Type 1} → statement M
+damage-of-spec =
+    tie.close (tie.spec canvas-requires meet-requires reached-requires meet-requires-2 returns)
