@@ -45,9 +45,6 @@ module _ (d : List ℕ) (o n count i : ℕ) where
 pub line-end : (n count v : ℕ) → v < count → v * n + n ≤ count * n
 line-end n count v h = omega (arith, mul-le-mul-right n h)
 
-pub lined-none : (f : ℕ → ℕ → ℕ) (o n : ℕ) (d : List ℕ) → Lined f o n 0 d d
-lined-none f o n d = record { inside = λ v i h l. absurd (omega arith); before = λ i h. refl; after = λ i h. refl; long = refl }
-
 -- the bytes of a line, one store after another
 pub line-none : (f : ℕ → ℕ) (r : ℕ) (d : List ℕ) → Filled (λ j. f (j - r)) r (r + 0) d d
 line-none f r d = rw (add-zero r) (filled-none (λ j. f (j - r)) r d)
@@ -57,47 +54,35 @@ line-more f r i v d d′ h e F =
     let q : r + (i + 1) ≡ r + i + 1 = omega arith in
     rw q (filled-more (λ j. f (j - r)) r (r + i) v d d′ (omega arith) h (e ∙ ap f (omega arith)) F)
 
--- one line more
-pub lined-more : (f : ℕ → ℕ → ℕ) (o n y : ℕ) (d d′ d″ : List ℕ) → Lined f o n y d d′
-    → Filled (λ j. f y (j - (o + y * n))) (o + y * n) (o + y * n + n) d′ d″ → Lined f o n (y + 1) d d″
-lined-more f o n y d d′ d″ L F = record {
-  inside = λ v i h l. ⊎-elim
-      (λ lt. F .before (o + v * n + i) (omega (arith, line-end n y v lt)) ∙ L .inside v i lt l)
-      (λ ge. let e : v ≡ y = omega arith in rw e (F .inside (o + y * n + i) (omega arith) (omega arith) ∙ ap (f y) (omega arith)))
-      (lt-or-le v y);
-  before = λ i h. F .before i (omega arith) ∙ L .before i h;
-  after = λ i h. F .after i (omega arith) ∙ L .after i (omega arith);
-  long = F .long ∙ L .long;
-}
-
 -- the columns of lines that were stored
 pub lined-column : (f : ℕ → ℕ → ℕ) (o n count : ℕ) (d d′ : List ℕ) → Lined f o n count d d′ → (i : ℕ) → i < n → column d′ o n count i ≡ within count (λ v. f v i)
 unfolding column
 lined-column f o n count d d′ L i l = within-same count (λ v. byteAt d′ o n v i) (λ v. f v i) (λ v h. L .inside v i h l)
 
--- what changes only the m places from b on leaves the places from a on
-apart-kept : (size a b m : ℕ) (d d′ : List ℕ) → Apart size a b → m ≤ size
-    → ((j : ℕ) → j < b → getD d′ j 0 ≡ getD d j 0) → ((j : ℕ) → b + m ≤ j → getD d′ j 0 ≡ getD d j 0)
+-- what changes only places from lo up to hi, among the size from b on, leaves the places from a on
+apart-kept : (size a b lo hi : ℕ) (d d′ : List ℕ) → Apart size a b → b ≤ lo → hi ≤ b + size
+    → ((j : ℕ) → j < lo → getD d′ j 0 ≡ getD d j 0) → ((j : ℕ) → hi ≤ j → getD d′ j 0 ≡ getD d j 0)
     → (k : ℕ) → k < size → getD d′ (a + k) 0 ≡ getD d (a + k) 0
-apart-kept size a b m d d′ apart le before after k h = ⊎-elim
-    (λ l. before (a + k) l)
-    (λ l. ⊎-elim
-    (λ l′. let e : a + k ≡ b + (a + k - b) = omega arith in absurd (apart k (a + k - b) h (omega arith) e))
-    (λ l′. after (a + k) l′)
-    (lt-or-le (a + k) (b + m)))
-    (lt-or-le (a + k) b)
+apart-kept size a b lo hi d d′ apart l l′ before after k h = ⊎-elim
+    (λ m. before (a + k) m)
+    (λ m. ⊎-elim
+    (λ m′. let e : a + k ≡ b + (a + k - b) = omega arith in absurd (apart k (a + k - b) h (omega arith) e))
+    (λ m′. after (a + k) m′)
+    (lt-or-le (a + k) hi))
+    (lt-or-le (a + k) lo)
 
 -- storing a line leaves one that lies apart
 pub line-apart : (f : ℕ → ℕ) (p r m n : ℕ) (d d′ : List ℕ) → Apart n p r → m ≤ n → Filled f r (r + m) d d′ → (k : ℕ) → k < n → getD d′ (p + k) 0 ≡ getD d (p + k) 0
-line-apart f p r m n d d′ apart le F = apart-kept n p r m d d′ apart le (F .before) (F .after)
+line-apart f p r m n d d′ apart le F = apart-kept n p r r (r + m) d d′ apart (omega arith) (omega arith) (F .before) (F .after)
 
--- storing lines leaves the columns of those that lie apart
-pub lined-apart : (f : ℕ → ℕ → ℕ) (from to n y count : ℕ) (d d′ : List ℕ) → Apart (count * n) from to → y ≤ count → Lined f to n y d d′
+-- the columns of lines that lie apart from what changes
+pub kept-column : (from to n count lo hi : ℕ) (d d′ : List ℕ) → Apart (count * n) from to → to ≤ lo → hi ≤ to + count * n
+    → ((j : ℕ) → j < lo → getD d′ j 0 ≡ getD d j 0) → ((j : ℕ) → hi ≤ j → getD d′ j 0 ≡ getD d j 0)
     → (i : ℕ) → i < n → column d′ from n count i ≡ column d from n count i
 unfolding column
-lined-apart f from to n y count d d′ apart le L i l = within-same count (λ v. byteAt d′ from n v i) (λ v. byteAt d from n v i) (λ v h.
+kept-column from to n count lo hi d d′ apart l l′ before after i h = within-same count (λ v. byteAt d′ from n v i) (λ v. byteAt d from n v i) (λ v k.
     let e : from + v * n + i ≡ from + (v * n + i) = omega arith in
-    rw e (apart-kept (count * n) from to (y * n) d d′ apart (mul-le-mul-right n le) (L .before) (L .after) (v * n + i) (omega (arith, line-end n count v h))))
+    rw e (apart-kept (count * n) from to lo hi d d′ apart l l′ before after (v * n + i) (omega (arith, line-end n count v k))))
 
 -- lines of the one kind lie apart from lines of the other
 pub lines-apart : (size from to n count v y : ℕ) → size ≡ count * n → Apart size from to → v < count → y < count → Apart n (from + v * n) (to + y * n)

@@ -2,16 +2,19 @@
 use mathlib.Core.Path.{_≡_, refl, sym, ap, _∙_}
 use mathlib.Core.List.{List}
 use Prim.Native.Nat.{ℕ, _+_, _-_, _*_, _/_, _≤_, _<_}
+use mathlib.Core.Logic.{⊎-elim}
+use native.Mathlib.Nat.{mul-le-mul-right}
 use native.Mathlib.Omega.{arith}
 use lib.ListN.{length, getD}
 use mir.Syntax.{w8}
 use mir.Val.{Fits}
 use Rattle.window.specs.Store.{Filled, Lined}
 use Rattle.window.specs.Window.{behind, column, mean}
+use Rattle.window.proofs.Store.{lt-or-le}
 use Rattle.raster_blur.specs.declared.pass.Pass.{Pass}
-use Rattle.raster_blur.specs.Running.{running, rounded, columns, Ready, Sums, Moved}
+use Rattle.raster_blur.specs.Running.{running, rounded, columns, Ready, Sums, Advanced}
 use Rattle.raster_blur.proofs.Ranges.{filled-as, filled-then}
-use Rattle.raster_blur.proofs.Lines.{column-in, column-out, column-lt, lined-more, lined-apart}
+use Rattle.raster_blur.proofs.Lines.{column-in, column-lt, line-end, kept-column}
 use Rattle.raster_blur.proofs.Slide.{behind-before, behind-from, running-slide, rounded-mean, rounded-le}
 
 -- each element is a byte, as the borrow checker has it
@@ -44,14 +47,20 @@ module _ (p : Pass) (d s : List ℕ) (y : ℕ) (R : Ready p d s) (S : Sums p d y
       let k = running-slide (p .back) (p .ahead) (columns p d i) y in
       (omega (arith, S i h, k), omega (arith, S i h, k))
 
-  -- so the line is moved on
-  pub moved : (d′ s′ : List ℕ) (g : ℕ → ℕ) → Filled g 0 (p .n) s s′ → ((i : ℕ) → i < p .n → g i ≡ next p d y i)
-      → Filled (λ j. g (j - (p .to + y * p .n)) / (p .back + p .ahead + 1)) (p .to + y * p .n) (p .to + y * p .n + p .n) d d′ → Moved p y d s d′ s′
-  moved d′ s′ g F e G = record {
-    sums = filled-as g (next p d y) 0 (p .n) s s′ (λ i l h. e i h) F;
-    line = filled-as _ _ _ _ d d′
-      (λ j l h. let r = p .to + y * p .n in
-      ap (λ (x : ℕ). x / (p .back + p .ahead + 1)) (e (j - r) (omega arith)) ∙ rounded-mean (p .back) (p .ahead) (columns p d (j - r)) y) G;
+  -- so the line is stored and the sums are slid
+  pub advanced-line : (d′ s′ : List ℕ) (g : ℕ → ℕ) → Filled g 0 (p .n) s s′ → ((i : ℕ) → i < p .n → g i ≡ next p d y i)
+      → Filled (λ j. g (j - (p .to + y * p .n)) / (p .back + p .ahead + 1)) (p .to + y * p .n) (p .to + y * p .n + p .n) d d′ → Advanced p y (y + 1) d s d′ s′
+  advanced-line d′ s′ g F e G = record {
+    inside = λ v i l h k.
+        let q : v ≡ y = omega arith in
+        let r : ℕ = p .to + y * p .n in
+        let at : r + i - r ≡ i = omega arith in
+        rw q (G .inside (r + i) (omega arith) (omega arith) ∙ ap (λ (x : ℕ). x / (p .back + p .ahead + 1)) (ap g at ∙ e i k) ∙ rounded-mean (p .back) (p .ahead) (columns p d i) y);
+    before = G .before;
+    after = λ j h. G .after j (omega arith);
+    long = G .long;
+    sums = λ i h. F .inside i (omega arith) h ∙ e i h;
+    sums-long = F .long;
   }
 
   -- the line by `enter`, `leave` and `means`: s′ has what came, and s″ is without what went
@@ -66,8 +75,8 @@ module _ (p : Pass) (d s : List ℕ) (y : ℕ) (R : Ready p d s) (S : Sums p d y
       pub left-le : (i : ℕ) → i < p .n → getD s″ i 0 ≤ 255 * (p .back + p .ahead + 1) + (p .back + p .ahead + 1) / 2
       left-le i h = omega (arith, left i h, next-le i)
 
-      pub edge-moved : (d′ : List ℕ) → Filled (λ j. getD s″ (j - (p .to + y * p .n)) 0 / (p .back + p .ahead + 1)) (p .to + y * p .n) (p .to + y * p .n + p .n) d d′ → Moved p y d s d′ s″
-      edge-moved d′ G = moved d′ s″ (λ i. getD s″ i 0) (filled-as _ _ 0 (p .n) s s″ (λ i l h. sym (L .inside i l h)) (filled-then _ _ 0 (p .n) s s′ s″ E L)) left G
+      pub edge-advanced : (d′ : List ℕ) → Filled (λ j. getD s″ (j - (p .to + y * p .n)) 0 / (p .back + p .ahead + 1)) (p .to + y * p .n) (p .to + y * p .n + p .n) d d′ → Advanced p y (y + 1) d s d′ s″
+      edge-advanced d′ G = advanced-line d′ s″ (λ i. getD s″ i 0) (filled-as _ _ 0 (p .n) s s″ (λ i l h. sym (L .inside i l h)) (filled-then _ _ 0 (p .n) s s′ s″ E L)) left G
 
   -- the line by `step`: bytes of two lines of the buffer
   module _ (behind-y : p .back < y) (y-ahead : y + p .ahead < p .count) where
@@ -77,37 +86,49 @@ module _ (p : Pass) (d s : List ℕ) (y : ℕ) (R : Ready p d s) (S : Sums p d y
         (u ≤ getD s i 0 + t) × (getD s i 0 + t - u ≡ next p d y i)
     inner-slid i h = slid i _ _ h (sym (column-in d (p .from) (p .n) (p .count) i (y + p .ahead) y-ahead)) (sym (leaving p d i y behind-y (omega arith)))
 
--- the pass before line y, from a buffer d and sums s: the lines before y are stored, and d′ and s′ are what stands now
-pub record State (p : Pass) (d s : List ℕ) (y : ℕ) (d′ s′ : List ℕ) : Type 0 where
-  pub within : y ≤ p .count
-  pub lines : Lined (λ v i. mean (p .back) (p .ahead) (columns p d i) v) (p .to) (p .n) y d d′
-  pub sums : Sums p d y s′
-  pub long : length s′ ≡ length s
+pub advanced-none : (p : Pass) (y : ℕ) (d s : List ℕ) → Sums p d y s → Advanced p y y d s d s
+advanced-none p y d s S = record {
+  inside = λ v i l h k. absurd (omega arith);
+  before = λ j h. refl;
+  after = λ j h. refl;
+  long = refl;
+  sums = S;
+  sums-long = refl;
+}
 
-module _ (p : Pass) (d s : List ℕ) (y : ℕ) (d′ s′ : List ℕ) (R : Ready p d s) (Q : State p d s y d′ s′) where
+-- after some lines the buffer and the sums serve the next
+module _ (p : Pass) (x y : ℕ) (d s d′ s′ : List ℕ) (R : Ready p d s) (le : x ≤ y) (most : y ≤ p .count) (A : Advanced p x y d s d′ s′) where
   same : (i : ℕ) → i < p .n → columns p d′ i ≡ columns p d i
-  same i h = lined-apart _ (p .from) (p .to) (p .n) y (p .count) d d′ (R .apart) (Q .within) (Q .lines) i h
+  same i h = kept-column (p .from) (p .to) (p .n) (p .count) (p .to + x * p .n) (p .to + y * p .n) d d′ (R .apart) (omega arith) (omega (arith, mul-le-mul-right (p .n) most)) (A .before) (A .after) i h
 
-  -- the present buffer and sums serve the next line
   pub ready : Ready p d′ s′
   ready = record {
-    source = omega (arith, R .source, Q .lines .long);
-    target = omega (arith, R .target, Q .lines .long);
+    source = omega (arith, R .source, A .long);
+    target = omega (arith, R .target, A .long);
     apart = R .apart;
-    sums = omega (arith, R .sums, Q .long);
+    sums = omega (arith, R .sums, A .sums-long);
     limit = R .limit;
     few = R .few;
     divides = R .divides;
   }
 
   pub present : Sums p d′ y s′
-  present i h = rw (same i h) (Q .sums i h)
+  present i h = rw (same i h) (A .sums i h)
 
-  pub state-more : (d″ s″ : List ℕ) → y < p .count → Moved p y d′ s′ d″ s″ → State p d s (y + 1) d″ s″
-  state-more d″ s″ l M = record {
-    within = omega arith;
-    lines = lined-more _ (p .to) (p .n) y d d′ d″ (Q .lines) (filled-as _ _ _ _ d′ d″
-      (λ j lo hi. ap (λ (f : ℕ → ℕ). mean (p .back) (p .ahead) f y) (same (j - (p .to + y * p .n)) (omega arith))) (M .line));
-    sums = λ i h. M .sums .inside i (omega arith) h ∙ ap (λ (f : ℕ → ℕ). rounded (p .back) (p .ahead) f (y + 1)) (same i h);
-    long = M .sums .long ∙ Q .long;
+  -- lines after lines
+  pub advanced-then : (z : ℕ) (d″ s″ : List ℕ) → y ≤ z → Advanced p y z d′ s′ d″ s″ → Advanced p x z d s d″ s″
+  advanced-then z d″ s″ l B = record {
+    inside = λ v i lo hi h. ⊎-elim
+        (λ lt. B .before (p .to + v * p .n + i) (omega (arith, line-end (p .n) y v lt)) ∙ A .inside v i lo lt h)
+        (λ ge. B .inside v i ge hi h ∙ ap (λ (f : ℕ → ℕ). mean (p .back) (p .ahead) f v) (same i h))
+        (lt-or-le v y);
+    before = λ j h. B .before j (omega (arith, mul-le-mul-right (p .n) le)) ∙ A .before j h;
+    after = λ j h. B .after j h ∙ A .after j (omega (arith, mul-le-mul-right (p .n) l));
+    long = B .long ∙ A .long;
+    sums = λ i h. B .sums i h ∙ ap (λ (f : ℕ → ℕ). rounded (p .back) (p .ahead) f z) (same i h);
+    sums-long = B .sums-long ∙ A .sums-long;
   }
+
+-- all lines are stored
+pub advanced-lined : (p : Pass) (d s d′ s′ : List ℕ) → Advanced p 0 (p .count) d s d′ s′ → Lined (λ v i. mean (p .back) (p .ahead) (columns p d i) v) (p .to) (p .n) (p .count) d d′
+advanced-lined p d s d′ s′ A = record { inside = λ v i h k. A .inside v i (omega arith) h k; before = λ j h. A .before j (omega arith); after = A .after; long = A .long }

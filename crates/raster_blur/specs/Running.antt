@@ -3,7 +3,7 @@ use mathlib.Core.Path.{_≡_}
 use mathlib.Core.List.{List}
 use Prim.Native.Nat.{ℕ, _+_, _-_, _*_, _/_, _≤_, _<_}
 use lib.ListN.{length, getD}
-use Rattle.window.specs.Store.{Filled}
+use Rattle.window.specs.Store.{byteAt}
 use Rattle.window.specs.Window.{fold, behind, column, mean}
 use Rattle.raster_blur.specs.declared.pass.Pass.{Pass}
 use Rattle.raster_blur.specs.Place.{Apart}
@@ -35,7 +35,11 @@ pub record Ready (p : Pass) (d s : List ℕ) : Type 0 where
 abbrev pub Sums : Pass → List ℕ → ℕ → List ℕ → Type 0
 Sums p d y s = (i : ℕ) → i < p .n → getD s i 0 ≡ rounded (p .back) (p .ahead) (columns p d i) y
 
--- line y is stored, and the sums are those before the next
-pub record Moved (p : Pass) (y : ℕ) (d s d′ s′ : List ℕ) : Type 0 where
-  pub sums : Filled (λ i. rounded (p .back) (p .ahead) (columns p d i) (y + 1)) 0 (p .n) s s′
-  pub line : Filled (λ j. mean (p .back) (p .ahead) (columns p d (j - (p .to + y * p .n))) y) (p .to + y * p .n) (p .to + y * p .n + p .n) d d′
+-- d′ and s′ are d and s after the lines y up to z: these are stored, and the sums are those before line z
+pub record Advanced (p : Pass) (y z : ℕ) (d s d′ s′ : List ℕ) : Type 0 where
+  pub inside : (v i : ℕ) → y ≤ v → v < z → i < p .n → byteAt d′ (p .to) (p .n) v i ≡ mean (p .back) (p .ahead) (columns p d i) v
+  pub before : (j : ℕ) → j < p .to + y * p .n → getD d′ j 0 ≡ getD d j 0
+  pub after : (j : ℕ) → p .to + z * p .n ≤ j → getD d′ j 0 ≡ getD d j 0
+  pub long : length d′ ≡ length d
+  pub sums : Sums p d z s′
+  pub sums-long : length s′ ≡ length s

@@ -1,15 +1,16 @@
 ghost use mathlib.Core.Path.{_≡_};
-ghost use Prim.Native.Nat.{ℕ, _+_, _-_, _*_, _/_, _≤_, _<_};
+ghost use Prim.Native.Nat.{ℕ, _+_, _-_, _*_, _/_, _≤_, _<_, max};
 ghost use lib.ListN.{length, getD};
 ghost use Rattle.window.specs.Store.{Filled, Lined};
 ghost use Rattle.window.specs.Window.{behind, column, mean};
 ghost use Rattle.raster_blur.specs.Place.{Apart};
-ghost use Rattle.raster_blur.specs.Running.{columns, Ready, Sums, Moved};
+ghost use Rattle.raster_blur.specs.Running.{columns, Ready, Sums, Advanced};
 use crate::reciprocal::reciprocal_of;
 use crate::sums::gain;
 use crate::sums::lose;
 use crate::sums::means;
 use crate::sums::step;
+use window::lesser;
 
 // A pass over count lines of n bytes: the means of those at from go to those at to.
 pub struct Pass {
@@ -64,7 +65,7 @@ fn start(buf: &[u8], p: Pass, sums: &mut [u16])
 // One line of the pass, near the first or the last.
 fn edge_line(buf: &mut [u8], p: Pass, y: usize, sums: &mut [u16])
     requires { ⌜ Ready p (now buf) (now sums) × (y < p .count) × Sums p (now buf) y (now sums) ⌝ }
-    ensures { λ _. ⌜ Moved p y (now (buf .entry)) (now (sums .entry)) (now (buf .exit)) (now (sums .exit)) ⌝ }
+    ensures { λ _. ⌜ Advanced p y (y + 1) (now (buf .entry)) (now (sums .entry)) (now (buf .exit)) (now (sums .exit)) ⌝ }
 {
     enter(&buf[..], p, y + p.ahead, sums);
     leave(&buf[..], p, y, sums);
@@ -74,10 +75,71 @@ fn edge_line(buf: &mut [u8], p: Pass, y: usize, sums: &mut [u16])
 // The same where a line enters and a line leaves.
 fn inner_line(buf: &mut [u8], p: Pass, y: usize, sums: &mut [u16])
     requires { ⌜ Ready p (now buf) (now sums) × (p .back < y) × (y + p .ahead < p .count) × Sums p (now buf) y (now sums) ⌝ }
-    ensures { λ _. ⌜ Moved p y (now (buf .entry)) (now (sums .entry)) (now (buf .exit)) (now (sums .exit)) ⌝ }
+    ensures { λ _. ⌜ Advanced p y (y + 1) (now (buf .entry)) (now (sums .entry)) (now (buf .exit)) (now (sums .exit)) ⌝ }
 {
     let enters = p.from + (y + p.ahead) * p.n;
     let leaves = p.from + (y - p.back - 1) * p.n;
     let size = p.back + p.ahead + 1;
     step(buf, enters, leaves, p.to + y * p.n, sums, p.n, p.mul, p.shift, size);
+}
+
+// The lines y up to z.
+fn edge_lines(buf: &mut [u8], p: Pass, y: usize, z: usize, sums: &mut [u16])
+    requires { ⌜ Ready p (now buf) (now sums) × (y ≤ z) × (z ≤ p .count) × Sums p (now buf) y (now sums) ⌝ }
+    ensures { λ _. ⌜ Advanced p y z (now (buf .entry)) (now (sums .entry)) (now (buf .exit)) (now (sums .exit)) ⌝ }
+{
+    for v in y..z {
+        edge_line(buf, p, v, sums);
+    }
+}
+
+fn inner_lines(buf: &mut [u8], p: Pass, y: usize, z: usize, sums: &mut [u16])
+    requires { ⌜ Ready p (now buf) (now sums) × (y ≤ z) × (z ≤ p .count) × Sums p (now buf) y (now sums) ⌝ }
+    requires { ⌜ ((v : ℕ) → y ≤ v → v < z → (p .back < v) × (v + p .ahead < p .count)) ⌝ }
+    ensures { λ _. ⌜ Advanced p y z (now (buf .entry)) (now (sums .entry)) (now (buf .exit)) (now (sums .exit)) ⌝ }
+{
+    for v in y..z {
+        inner_line(buf, p, v, sums);
+    }
+}
+
+// A box pass along the columns of count lines of n bytes: from the lines at from to those at to.
+pub fn box_pass(
+    buf: &mut [u8],
+    from: usize,
+    to: usize,
+    n: usize,
+    count: usize,
+    back: usize,
+    ahead: usize,
+    sums: &mut [u16],
+)
+    requires { ⌜ (from + count * n ≤ length (now buf)) × (to + count * n ≤ length (now buf)) × Apart (count * n) from to ⌝ }
+    requires { ⌜ (n ≤ length (now sums)) × (count ≤ 65536) × (1 ≤ back + ahead) × (back + ahead + 1 ≤ 61) ⌝ }
+    ensures { λ _. ⌜ Lined (λ v i. mean back ahead (column (now (buf .entry)) from n count i) v) to n count (now (buf .entry)) (now (buf .exit)) ⌝ }
+{
+    let r = reciprocal_of(back + ahead + 1);
+    let p = Pass {
+        from,
+        to,
+        n,
+        count,
+        back,
+        ahead,
+        mul: r.mul,
+        shift: r.shift,
+    };
+    // a line leaves from y on, and none enters from z on
+    let y = lesser(back + 1, count);
+    let z = greater(y, count - lesser(ahead, count));
+    start(&buf[..], p, sums);
+    edge_lines(buf, p, 0, y, sums);
+    inner_lines(buf, p, y, z, sums);
+    edge_lines(buf, p, z, count, sums);
+}
+
+fn greater(a: usize, b: usize) -> usize
+    ensures { λ r. ⌜ r ≡ max a b ⌝ }
+{
+    if a < b { b } else { a }
 }

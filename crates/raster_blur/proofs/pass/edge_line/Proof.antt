@@ -6,7 +6,7 @@ use native.Mathlib.Omega.{arith}
 use borrow.Author.Needs.{needs}
 use lib.ListN.{length, getD}
 use Rattle.raster_blur.proofs.Lines.{line-end}
-use Rattle.raster_blur.proofs.Passes.{sum-lt, entered, left-le, edge-moved}
+use Rattle.raster_blur.proofs.Passes.{sum-lt, entered, left-le, edge-advanced}
 use Rattle.raster_blur.proofs.pass.edge_line.Statement.{statement}
 use Rattle.raster_blur.proofs.pass.edge_line.Tie as tie
 
@@ -66,7 +66,7 @@ returns c =
     let at-start = c .before .before .before .before .before .before .before .before .before .before .before .before .before .before .before .before .before .before .before .before .before in
     let a = at-start .args in
     let pre = at-start .pre in
-    edge-moved (a .p) (a .buf .now) (a .sums .now) (a .y) (pre .0) (pre .2) (c .before .before .before .before .before .before .before .before .before .before .before .before .before .before .before .before .before .before .before .before .slice-known .given) _ (c .before .before .before .before .before .before .before .before .before .before .before .before .before .before .before .enter .ensures) _ (c .before .before .before .before .before .before .before .before .before .before .leave .ensures) _ (c .before .before .means .ensures)
+    edge-advanced (a .p) (a .buf .now) (a .sums .now) (a .y) (pre .0) (pre .2) (c .before .before .before .before .before .before .before .before .before .before .before .before .before .before .before .before .before .before .before .before .slice-known .given) _ (c .before .before .before .before .before .before .before .before .before .before .before .before .before .before .before .enter .ensures) _ (c .before .before .before .before .before .before .before .before .before .before .leave .ensures) _ (c .before .before .means .ensures)
 
 pub edge-line-spec : {M : Type 1} → statement M
 edge-line-spec =

@@ -6,7 +6,7 @@ use native.Mathlib.Omega.{arith}
 use borrow.Author.Needs.{needs}
 use lib.ListN.{length, getD}
 use Rattle.raster_blur.proofs.Lines.{line-end, lines-apart}
-use Rattle.raster_blur.proofs.Passes.{sum-lt, next-le, inner-slid, moved}
+use Rattle.raster_blur.proofs.Passes.{sum-lt, next-le, inner-slid, advanced-line}
 use Rattle.raster_blur.proofs.pass.inner_line.Statement.{statement}
 use Rattle.raster_blur.proofs.pass.inner_line.Tie as tie
 
@@ -106,7 +106,7 @@ returns c =
     let pre = at-start .pre in
     let bytes = c .before .before .before .before .before .before .before .before .before .before .before .before .before .before .before .before .before .slice-known .given in
     let E = c .before .before .before .before .step .ensures in
-    moved (a .p) (a .buf .now) (a .sums .now) (a .y) (pre .0) (pre .3) bytes _ _ _ (E .0) (λ i h. inner-slid (a .p) (a .buf .now) (a .sums .now) (a .y) (pre .0) (pre .3) bytes (pre .1) (pre .2) i h .1) (E .1)
+    advanced-line (a .p) (a .buf .now) (a .sums .now) (a .y) (pre .0) (pre .3) bytes _ _ _ (E .0) (λ i h. inner-slid (a .p) (a .buf .now) (a .sums .now) (a .y) (pre .0) (pre .3) bytes (pre .1) (pre .2) i h .1) (E .1)
 
 pub inner-line-spec : {M : Type 1} → statement M
 inner-line-spec =
