@@ -19,8 +19,8 @@ quotient x n size p e pos is small =
     let turn2 : (q + 1) * size * p ≡ (q + 1) * p * size = mul-right-comm (q + 1) size p in
     let more : (n + 1) * p ≡ n * p + 1 * p = add-mul n 1 p in
     div-eq-of-lt-le p
-      (le-of-mul-le-mul-right {k = size} (omega (arith, is, below, turn)) pos)
-      (lt-of-mul-lt-mul-right size (omega (arith, is, next, turn2, more, small)))
+    (le-of-mul-le-mul-right {k = size} (omega (arith, is, below, turn)) pos)
+    (lt-of-mul-lt-mul-right size (omega (arith, is, next, turn2, more, small)))
 
 -- m * size is p and e more, and t * e does not reach p
 by-product : (t size m p e : ℕ) → 0 < size → m * size ≡ p + e → t * e < p → t * m / p ≡ t / size

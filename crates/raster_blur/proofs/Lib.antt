@@ -4,3 +4,5 @@ pub mod Slide
 pub mod Ranges
 pub mod Lines
 pub mod Passes
+pub mod Blurs
+pub mod Tiles

@@ -1,4 +1,5 @@
 -- What the crate's clauses cite.
 pub mod Reciprocal
 pub mod Place
+pub mod Blurred
 pub mod Running

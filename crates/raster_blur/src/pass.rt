@@ -69,7 +69,15 @@ fn edge_line(buf: &mut [u8], p: Pass, y: usize, sums: &mut [u16])
 {
     enter(&buf[..], p, y + p.ahead, sums);
     leave(&buf[..], p, y, sums);
-    means(buf, p.to + y * p.n, &sums[..], p.n, p.mul, p.shift, p.back + p.ahead + 1);
+    means(
+        buf,
+        p.to + y * p.n,
+        &sums[..],
+        p.n,
+        p.mul,
+        p.shift,
+        p.back + p.ahead + 1,
+    );
 }
 
 // The same where a line enters and a line leaves.
@@ -80,7 +88,17 @@ fn inner_line(buf: &mut [u8], p: Pass, y: usize, sums: &mut [u16])
     let enters = p.from + (y + p.ahead) * p.n;
     let leaves = p.from + (y - p.back - 1) * p.n;
     let size = p.back + p.ahead + 1;
-    step(buf, enters, leaves, p.to + y * p.n, sums, p.n, p.mul, p.shift, size);
+    step(
+        buf,
+        enters,
+        leaves,
+        p.to + y * p.n,
+        sums,
+        p.n,
+        p.mul,
+        p.shift,
+        size,
+    );
 }
 
 // The lines y up to z.

@@ -35,15 +35,7 @@ pub fn lose(buf: &[u8], p: usize, sums: &mut [u16], n: usize)
 }
 
 // Stores the sums, each divided by size, as the line at r.
-pub fn means(
-    buf: &mut [u8],
-    r: usize,
-    sums: &[u16],
-    n: usize,
-    mul: u16,
-    shift: u16,
-    size: usize,
-)
+pub fn means(buf: &mut [u8], r: usize, sums: &[u16], n: usize, mul: u16, shift: u16, size: usize)
     requires { ⌜ (r + n ≤ length (now buf)) × (n ≤ length (now sums)) × Divides mul shift size ⌝ }
     requires { ⌜ ((i : ℕ) → i < n → getD (now sums) i 0 ≤ 255 * size + size / 2) ⌝ }
     ensures { λ _. ⌜ Filled (λ j. getD (now (sums .entry)) (j - r) 0 / size) r (r + n) (now (buf .entry)) (now (buf .exit)) ⌝ }
