@@ -1,12 +1,12 @@
 -- Three box passes, from the lines at a to those at b and back, are a blur's passes. Assumes nothing.
-use mathlib.Core.Path.{_≡_, refl, sym, ap, _∙_}
+use mathlib.Core.Path.{_≡_, sym, ap, _∙_}
 use mathlib.Core.List.{List}
 use mathlib.Core.Logic.{⊎-elim}
 use Prim.Native.Nat.{ℕ, _+_, _-_, _*_, _/_, _%_, _≤_, _<_}
 use native.Mathlib.Omega.{arith}
-use lib.ListN.{length, getD}
+use lib.ListN.{getD}
 use borrow.Author.Tests.{le-ltb, eq-eqb, ne-eqb}
-use Rattle.window.specs.Store.{Lined, byteAt}
+use Rattle.window.specs.Store.{Lined}
 use Rattle.window.specs.Window.{column, mean, box, passes, passesOf}
 use Rattle.window.proofs.Store.{lt-or-le}
 use Rattle.raster_blur.specs.Place.{Outside}

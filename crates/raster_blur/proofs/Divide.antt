@@ -1,7 +1,7 @@
 -- A reciprocal that is rounded up divides, where the number is so small that the rounding does not count. Assumes nothing.
 use mathlib.Core.Path.{_≡_, ap, _∙_}
 use Prim.Native.Nat.{ℕ, _+_, _-_, _*_, _/_, _≤_, _<_, _^_}
-use native.Mathlib.Nat.{mul-assoc, mul-add, add-mul, mul-right-comm, mul-le-mul, mul-le-mul-right, le-of-mul-le-mul-right, lt-of-mul-lt-mul-right, div-mul-le-self, div-lt-iff-lt-mul, div-eq-of-lt-le, div-div-eq-div-mul, lt-of-le-of-lt, lt-div-mul-add}
+use native.Mathlib.Nat.{mul-assoc, mul-add, add-mul, mul-right-comm, mul-le-mul, mul-le-mul-right, le-of-mul-le-mul-right, lt-of-mul-lt-mul-right, div-mul-le-self, div-lt-iff-lt-mul, div-eq-of-lt-le, div-div-eq-div-mul, lt-div-mul-add}
 use native.Mathlib.Omega.{arith}
 use mathlib.Core.Logic.{⊎-elim}
 use lib.Pow.{pow-mono}

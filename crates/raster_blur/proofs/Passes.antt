@@ -5,17 +5,17 @@ use Prim.Native.Nat.{ℕ, _+_, _-_, _*_, _/_, _≤_, _<_}
 use mathlib.Core.Logic.{⊎-elim}
 use native.Mathlib.Nat.{mul-le-mul-right}
 use native.Mathlib.Omega.{arith}
-use lib.ListN.{length, getD}
+use lib.ListN.{getD}
 use mir.Syntax.{w8}
 use mir.Val.{Fits}
 use Rattle.window.specs.Store.{Filled, Lined}
-use Rattle.window.specs.Window.{behind, column, mean}
+use Rattle.window.specs.Window.{behind, mean}
 use Rattle.window.proofs.Store.{lt-or-le}
 use Rattle.raster_blur.specs.declared.pass.Pass.{Pass}
-use Rattle.raster_blur.specs.Running.{running, rounded, columns, Ready, Sums, Advanced}
+use Rattle.raster_blur.specs.Running.{rounded, columns, Ready, Sums, Advanced}
 use Rattle.raster_blur.proofs.Ranges.{filled-as, filled-then}
 use Rattle.raster_blur.proofs.Lines.{column-in, column-lt, line-end, kept-column}
-use Rattle.raster_blur.proofs.Slide.{behind-before, behind-from, running-slide, rounded-mean, rounded-le}
+use Rattle.raster_blur.proofs.Slide.{behind-from, running-slide, rounded-mean, rounded-le}
 
 -- each element is a byte, as the borrow checker has it
 abbrev pub Bytes : List ℕ → Type 0

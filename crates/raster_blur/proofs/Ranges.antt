@@ -1,12 +1,9 @@
 -- Laws of stores at a range: the same by another function, none, and one after another. Assumes nothing.
-use mathlib.Core.Path.{_≡_, refl, sym, ap, _∙_}
+use mathlib.Core.Path.{_≡_, refl, _∙_}
 use mathlib.Core.List.{List}
-use mathlib.Core.Logic.{⊎-elim}
-use Prim.Native.Nat.{ℕ, _+_, _-_, _≤_, _<_}
-use native.Mathlib.Omega.{arith}
-use lib.ListN.{length, getD}
+use Prim.Native.Nat.{ℕ, _≤_, _<_}
+use lib.ListN.{getD}
 use Rattle.window.specs.Store.{Filled}
-use Rattle.window.proofs.Store.{lt-or-le}
 
 -- another function that is the same in the range
 pub filled-as : (g f : ℕ → ℕ) (a b : ℕ) (d d′ : List ℕ) → ((i : ℕ) → a ≤ i → i < b → g i ≡ f i) → Filled g a b d d′ → Filled f a b d d′

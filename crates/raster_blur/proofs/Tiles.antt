@@ -1,11 +1,11 @@
 -- Laws of four stores, and of rows that lie a stride apart. Assumes nothing.
-use mathlib.Core.Path.{_≡_, refl, sym, ap, _∙_}
+use mathlib.Core.Path.{_≡_, refl, ap, _∙_}
 use mathlib.Core.List.{List}
 use mathlib.Core.Logic.{⊎-elim}
-use Prim.Native.Nat.{ℕ, _+_, _-_, _*_, _≤_, _<_}
+use Prim.Native.Nat.{ℕ, _+_, _-_, _*_, _≤_}
 use native.Mathlib.Omega.{arith}
-use lib.ListN.{length, getD, set}
-use Rattle.window.specs.Store.{Filled, byteAt}
+use lib.ListN.{length, set}
+use Rattle.window.specs.Store.{Filled}
 use Rattle.window.proofs.Store.{lt-or-le, filled-none, filled-more}
 use Rattle.raster_blur.specs.Place.{Rows}
 use Rattle.raster_blur.proofs.Lines.{line-end}

@@ -1,7 +1,7 @@
 -- What a blur leaves of the lines in a buffer. Assumes nothing.
 use mathlib.Core.Path.{_≡_}
 use mathlib.Core.List.{List}
-use Prim.Native.Nat.{ℕ, _+_, _*_, _<_}
+use Prim.Native.Nat.{ℕ, _*_, _<_}
 use lib.ListN.{length, getD}
 use Rattle.window.specs.Store.{byteAt}
 use Rattle.window.specs.Window.{column, passes}

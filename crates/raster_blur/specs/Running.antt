@@ -1,7 +1,7 @@
 -- The running sums of a box pass, which only the code needs: no promise to a caller cites them. Assumes nothing.
 use mathlib.Core.Path.{_≡_}
 use mathlib.Core.List.{List}
-use Prim.Native.Nat.{ℕ, _+_, _-_, _*_, _/_, _≤_, _<_}
+use Prim.Native.Nat.{ℕ, _+_, _*_, _/_, _≤_, _<_}
 use lib.ListN.{length, getD}
 use Rattle.window.specs.Store.{byteAt}
 use Rattle.window.specs.Window.{fold, behind, column, mean}

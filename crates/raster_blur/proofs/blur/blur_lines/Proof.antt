@@ -1,7 +1,6 @@
-use borrow.Author.Needs.{needs}
 -- `blur_lines` meets its contract: three box passes, there, back and there again. Assumes nothing.
-use mathlib.Core.Path.{_≡_, refl, sym}
-use Prim.Native.Nat.{ℕ, _+_, _*_, _-_, _/_, _%_, _≤_}
+use mathlib.Core.Path.{refl, sym}
+use Prim.Native.Nat.{_-_, _/_, _%_}
 use native.Mathlib.Omega.{arith}
 use borrow.Author.Needs.{needs}
 use Rattle.raster_blur.proofs.Blurs.{blurred}

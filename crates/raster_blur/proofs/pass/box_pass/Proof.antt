@@ -1,7 +1,5 @@
-use borrow.Author.Needs.{needs}
 -- `box_pass` meets its contract: three runs of lines, one after another. Assumes nothing.
-use mathlib.Core.Path.{_≡_}
-use Prim.Native.Nat.{ℕ, min, max, _+_, _*_, _-_, _≤_, _<_}
+use Prim.Native.Nat.{ℕ, _+_, _≤_, _<_}
 use native.Mathlib.Omega.{arith}
 use borrow.Author.Needs.{needs}
 use Rattle.raster_blur.specs.declared.pass.Pass.{Pass}

@@ -1,10 +1,6 @@
-use borrow.Author.Needs.{needs}
 -- `edge_line` meets its contract: the sums are slid in two steps, then divided. Assumes nothing.
-use mathlib.Core.Path.{_≡_, _∙_, sym, ap}
-use Prim.Native.Nat.{ℕ, _+_, _*_, _-_, _/_, _≤_, _<_}
 use native.Mathlib.Omega.{arith}
 use borrow.Author.Needs.{needs}
-use lib.ListN.{length, getD}
 use Rattle.raster_blur.proofs.Lines.{line-end}
 use Rattle.raster_blur.proofs.Passes.{sum-lt, entered, left-le, edge-advanced}
 use Rattle.raster_blur.proofs.pass.edge_line.Statement.{statement}

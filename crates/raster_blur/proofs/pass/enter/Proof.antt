@@ -1,11 +1,9 @@
-use borrow.Author.Needs.{needs}
 -- `enter` meets its contract: where there is no line v, its column is 0 there. Assumes nothing.
-use mathlib.Core.Path.{_≡_, _∙_, sym, ap}
-use Prim.Native.Nat.{ℕ, _+_, _*_, _-_, _/_, _≤_, _<_}
+use mathlib.Core.Path.{sym, ap}
+use Prim.Native.Nat.{ℕ, _+_}
 use native.Mathlib.Omega.{arith}
 use borrow.Author.Needs.{needs}
-use lib.ListN.{length, getD}
-use Rattle.raster_blur.specs.Running.{columns}
+use lib.ListN.{getD}
 use Rattle.raster_blur.proofs.Ranges.{filled-as, filled-same}
 use Rattle.raster_blur.proofs.Lines.{column-in, column-out, line-end}
 use Rattle.raster_blur.proofs.pass.enter.Statement.{statement}

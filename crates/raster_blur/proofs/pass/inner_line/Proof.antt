@@ -1,10 +1,9 @@
-use borrow.Author.Needs.{needs}
 -- `inner_line` meets its contract: the sums are slid and divided by one loop over the line that enters and the one that leaves. Assumes nothing.
-use mathlib.Core.Path.{_≡_, refl, _∙_, sym, ap}
-use Prim.Native.Nat.{ℕ, _+_, _*_, _-_, _/_, _≤_, _<_}
+use lib.ListN.{getD}
+use mathlib.Core.Path.{refl}
+use Prim.Native.Nat.{ℕ, _+_, _-_, _*_, _<_}
 use native.Mathlib.Omega.{arith}
 use borrow.Author.Needs.{needs}
-use lib.ListN.{length, getD}
 use Rattle.raster_blur.proofs.Lines.{line-end, lines-apart}
 use Rattle.raster_blur.proofs.Passes.{sum-lt, next-le, inner-slid, advanced-line}
 use Rattle.raster_blur.proofs.pass.inner_line.Statement.{statement}
@@ -106,7 +105,9 @@ returns c =
     let pre = at-start .pre in
     let bytes = c .before .before .before .before .before .before .before .before .before .before .before .before .before .before .before .before .before .slice-known .given in
     let E = c .before .before .before .before .step .ensures in
-    advanced-line (a .p) (a .buf .now) (a .sums .now) (a .y) (pre .0) (pre .3) bytes _ _ _ (E .0) (λ i h. inner-slid (a .p) (a .buf .now) (a .sums .now) (a .y) (pre .0) (pre .3) bytes (pre .1) (pre .2) i h .1) (E .1)
+    let enters : ℕ = a .p .from + (a .y + a .p .ahead) * a .p .n in
+    let leaves : ℕ = a .p .from + (a .y - a .p .back - 1) * a .p .n in
+    advanced-line (a .p) (a .buf .now) (a .sums .now) (a .y) (pre .0) (pre .3) bytes _ _ (λ i. getD (a .sums .now) i 0 + getD (a .buf .now) (enters + i) 0 - getD (a .buf .now) (leaves + i) 0) (E .0) (λ i h. inner-slid (a .p) (a .buf .now) (a .sums .now) (a .y) (pre .0) (pre .3) bytes (pre .1) (pre .2) i h .1) (E .1)
 
 pub inner-line-spec : {M : Type 1} → statement M
 inner-line-spec =

@@ -1,10 +1,9 @@
-use borrow.Author.Needs.{needs}
 -- `leave` meets its contract: where no line leaves, the window reaches before the first. Assumes nothing.
-use mathlib.Core.Path.{_≡_, _∙_, sym, ap}
-use Prim.Native.Nat.{ℕ, _+_, _*_, _-_, _/_, _≤_, _<_}
+use mathlib.Core.Path.{sym, ap}
+use Prim.Native.Nat.{ℕ, _+_, _-_}
 use native.Mathlib.Omega.{arith}
 use borrow.Author.Needs.{needs}
-use lib.ListN.{length, getD}
+use lib.ListN.{getD}
 use Rattle.raster_blur.specs.Running.{columns}
 use Rattle.raster_blur.proofs.Ranges.{filled-as, filled-same}
 use Rattle.raster_blur.proofs.Lines.{line-end}

@@ -1,5 +1,5 @@
 -- `mean` meets its contract: what `Divides` says. Assumes nothing.
-use mathlib.Core.Path.{_≡_, _∙_}
+use mathlib.Core.Path.{_∙_}
 use native.Mathlib.Omega.{arith}
 use borrow.Author.Needs.{needs}
 use Rattle.raster_blur.proofs.Divide.{mean-lt, product-lt}

@@ -1,4 +1,3 @@
-use borrow.Author.Needs.{needs}
 -- `copy_pixel` meets its contract: four stores. Assumes nothing.
 use mathlib.Core.Path.{ap}
 use Prim.Native.Nat.{ℕ, _+_, _-_}

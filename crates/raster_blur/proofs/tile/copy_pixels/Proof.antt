@@ -1,12 +1,10 @@
 -- `copy_pixels` meets its contract, one pixel after another. Assumes nothing.
-use mathlib.Core.Path.{_≡_, ap}
-use Prim.Native.Nat.{ℕ, _+_, _*_, _-_, _≤_}
+use mathlib.Core.Path.{_≡_}
+use Prim.Native.Nat.{_-_, _≤_}
 use native.Mathlib.Omega.{arith}
 use borrow.Author.Needs.{needs}
-use lib.ListN.{getD}
 use Rattle.window.specs.Store.{byteAt}
 use Rattle.raster_blur.specs.Place.{Rows}
-use Rattle.raster_blur.proofs.Ranges.{filled-as}
 use Rattle.raster_blur.proofs.Tiles.{rows-none, rows-more}
 use Rattle.raster_blur.proofs.tile.copy_pixels.Statement.{statement}
 use Rattle.raster_blur.proofs.tile.copy_pixels.Tie as tie
