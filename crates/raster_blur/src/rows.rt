@@ -19,6 +19,7 @@ fn copy_pixel(src: &[u8], i: usize, dst: &mut [u8], j: usize)
     dst[j + 3] = a;
 }
 
+// The same for n bytes.
 fn copy_row(src: &[u8], i: usize, dst: &mut [u8], j: usize, n: usize)
     requires { ⌜ (i + n ≤ length (now src)) × (j + n ≤ length (now dst)) ⌝ }
     ensures { λ _. ⌜ Filled (λ t. getD (now (src .entry)) (i + (t - j)) 0) j (j + n) (now (dst .entry)) (now (dst .exit)) ⌝ }
@@ -32,7 +33,7 @@ fn copy_row(src: &[u8], i: usize, dst: &mut [u8], j: usize, n: usize)
     }
 }
 
-// Rows of n bytes, the one kind stride bytes apart from `from` on, go to places that are step bytes apart from `to` on.
+// Rows of n bytes that lie stride bytes apart from `from` on go to places that lie step bytes apart from `to` on.
 pub fn copy_rows(
     src: &[u8],
     from: usize,
@@ -51,7 +52,7 @@ pub fn copy_rows(
     }
 }
 
-// Pixel x of a row goes to the four bytes at `at` of line x, lines having 32 bytes.
+// Pixel x of a row goes to line x of 32 bytes, where line 0 has its four bytes at `at`: eight rows make the lines of a pass along rows.
 pub fn spread(row: &[u8], dst: &mut [u8], at: usize, w: usize)
     requires { ⌜ (4 * w ≤ length (now row)) × (at + 32 * w ≤ length (now dst) + 28) ⌝ }
     ensures { λ _. ⌜ Rows (λ x c. byteAt (now (row .entry)) 0 4 x c) at 32 4 w (now (dst .entry)) (now (dst .exit)) ⌝ }
