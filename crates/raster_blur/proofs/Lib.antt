@@ -5,4 +5,4 @@ pub mod Ranges
 pub mod Lines
 pub mod Passes
 pub mod Blurs
-pub mod Tiles
+pub mod Stride

@@ -101,7 +101,7 @@ fn inner_line(buf: &mut [u8], p: Pass, y: usize, sums: &mut [u16])
     );
 }
 
-// The lines y up to z.
+// The lines y up to z. There is a loop for each kind of line, since a test inside would keep it from being vectorised.
 fn edge_lines(buf: &mut [u8], p: Pass, y: usize, z: usize, sums: &mut [u16])
     requires { ⌜ Ready p (now buf) (now sums) × (y ≤ z) × (z ≤ p .count) × Sums p (now buf) y (now sums) ⌝ }
     ensures { λ _. ⌜ Advanced p y z (now (buf .entry)) (now (sums .entry)) (now (buf .exit)) (now (sums .exit)) ⌝ }
@@ -121,7 +121,7 @@ fn inner_lines(buf: &mut [u8], p: Pass, y: usize, z: usize, sums: &mut [u16])
     }
 }
 
-// A box pass along the columns of count lines of n bytes: from the lines at from to those at to.
+// A box pass along the columns of count lines of n bytes: from the lines at from to those at to. The sums are for its own use.
 pub fn box_pass(
     buf: &mut [u8],
     from: usize,

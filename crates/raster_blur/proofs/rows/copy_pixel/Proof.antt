@@ -4,9 +4,9 @@ use Prim.Native.Nat.{ℕ, _+_, _-_}
 use native.Mathlib.Omega.{arith}
 use borrow.Author.Needs.{needs}
 use lib.ListN.{getD, length-set}
-use Rattle.raster_blur.proofs.Tiles.{four-stores}
-use Rattle.raster_blur.proofs.tile.copy_pixel.Statement.{statement}
-use Rattle.raster_blur.proofs.tile.copy_pixel.Tie as tie
+use Rattle.raster_blur.proofs.Stride.{four-stores}
+use Rattle.raster_blur.proofs.rows.copy_pixel.Statement.{statement}
+use Rattle.raster_blur.proofs.rows.copy_pixel.Tie as tie
 
 shared-slice-read-r : tie.Need-shared-slice-read-r
 shared-slice-read-r c = search needs

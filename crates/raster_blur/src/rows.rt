@@ -19,30 +19,45 @@ fn copy_pixel(src: &[u8], i: usize, dst: &mut [u8], j: usize)
     dst[j + 3] = a;
 }
 
-// w pixels that lie stride bytes apart from `from` on go to places that lie step bytes apart from `to` on.
-fn copy_pixels(
+// The same for n bytes.
+fn copy_row(src: &[u8], i: usize, dst: &mut [u8], j: usize, n: usize)
+    requires { ⌜ (i + n ≤ length (now src)) × (j + n ≤ length (now dst)) ⌝ }
+    ensures { λ _. ⌜ Filled (λ t. getD (now (src .entry)) (i + (t - j)) 0) j (j + n) (now (dst .entry)) (now (dst .exit)) ⌝ }
+{
+    if n == 4 {
+        copy_pixel(src, i, dst, j);
+        return;
+    }
+    for k in 0..n {
+        dst[j + k] = src[i + k];
+    }
+}
+
+// Rows of n bytes that lie stride bytes apart from `from` on go to places that lie step bytes apart from `to` on.
+pub fn copy_rows(
     src: &[u8],
     from: usize,
     stride: usize,
     dst: &mut [u8],
     to: usize,
     step: usize,
-    w: usize,
+    n: usize,
+    rows: usize,
 )
-    requires { ⌜ (4 ≤ step) × ((x : ℕ) → x < w → (from + x * stride + 4 ≤ length (now src)) × (to + x * step + 4 ≤ length (now dst))) ⌝ }
-    ensures { λ _. ⌜ Rows (λ x c. byteAt (now (src .entry)) from stride x c) to step 4 w (now (dst .entry)) (now (dst .exit)) ⌝ }
+    requires { ⌜ (n ≤ step) × ((v : ℕ) → v < rows → (from + v * stride + n ≤ length (now src)) × (to + v * step + n ≤ length (now dst))) ⌝ }
+    ensures { λ _. ⌜ Rows (λ v i. byteAt (now (src .entry)) from stride v i) to step n rows (now (dst .entry)) (now (dst .exit)) ⌝ }
 {
-    for x in 0..w {
-        copy_pixel(src, from + x * stride, dst, to + x * step);
+    for v in 0..rows {
+        copy_row(src, from + v * stride, dst, to + v * step, n);
     }
 }
 
-// Pixel x of a row goes to the four bytes at `at` of line x, lines having 32 bytes.
+// Pixel x of a row goes to line x of 32 bytes, where line 0 has its four bytes at `at`: eight rows make the lines of a pass along rows.
 pub fn spread(row: &[u8], dst: &mut [u8], at: usize, w: usize)
     requires { ⌜ (4 * w ≤ length (now row)) × (at + 32 * w ≤ length (now dst) + 28) ⌝ }
     ensures { λ _. ⌜ Rows (λ x c. byteAt (now (row .entry)) 0 4 x c) at 32 4 w (now (dst .entry)) (now (dst .exit)) ⌝ }
 {
-    copy_pixels(row, 0, 4, dst, at, 32, w);
+    copy_rows(row, 0, 4, dst, at, 32, 4, w);
 }
 
 // And back.
@@ -50,5 +65,5 @@ pub fn gather(src: &[u8], at: usize, row: &mut [u8], w: usize)
     requires { ⌜ (at + 32 * w ≤ length (now src) + 28) × (4 * w ≤ length (now row)) ⌝ }
     ensures { λ _. ⌜ Rows (λ x c. byteAt (now (src .entry)) at 32 x c) 0 4 4 w (now (row .entry)) (now (row .exit)) ⌝ }
 {
-    copy_pixels(src, at, 32, row, 0, 4, w);
+    copy_rows(src, at, 32, row, 0, 4, 4, w);
 }
