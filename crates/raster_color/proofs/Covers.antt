@@ -1,7 +1,7 @@
 -- Premultiply: division by 255 by shifts, and a row of factors against pixels. Assumes nothing.
-use mathlib.Core.Path.{_≡_, refl, sym, ap, ap₂, _∙_}
+use mathlib.Core.Path.{_≡_, ap, _∙_}
 use mathlib.Core.List.{List}
-use Prim.Native.Nat.{ℕ, _+_, _*_, _/_, _%_, _≤_, _<_}
+use Prim.Native.Nat.{ℕ, _+_, _-_, _*_, _/_, _%_, _≤_, _<_}
 use native.Mathlib.Nat.{mul-le-mul, add-mul-mod-self-right, mod-eq-of-lt}
 use native.Mathlib.Omega.{arith}
 use lib.ListN.{length, getD}
@@ -11,7 +11,7 @@ use Rattle.pixel.specs.declared.Matrix.{Matrix}
 use Rattle.pixel.specs.Alpha.{pixel, premultiplied}
 use Rattle.pixel.specs.Matrix.{transformed}
 use Rattle.pixel.specs.Bytes.{pixelAt, Painted}
-use Rattle.raster_color.specs.Code.{factors, covered, mixed}
+use Rattle.raster_color.specs.Code.{factors, covered, mixed, wordAt}
 use Rattle.raster_color.proofs.Painted.{pixel-by}
 
 pub by-255 : (n : ℕ) → n ≤ 65025 → (n + 128 + (n + 128) / 256) / 256 ≡ (n + 127) / 255
@@ -26,16 +26,23 @@ opaque a = omega arith
 low-byte : (n q a : ℕ) → n ≡ a + q * 256 → a < 256 → n % 256 ≡ a
 low-byte n q a e l = rw (e, add-mul-mod-self-right a q 256) (mod-eq-of-lt l)
 
+-- the highest byte of a word
+pub highest : (d : List ℕ) (i : ℕ) → getD d i 0 < 256 → getD d (i + 1) 0 < 256 → getD d (i + 2) 0 < 256 → wordAt d i / 16777216 ≡ getD d (i + 3) 0
+highest d i l0 l1 l2 = omega arith
+
 -- the four bytes of a word are an alpha three times, and 255
-pub word-factors : (a : ℕ) → a < 256
+plain-factors : (a : ℕ) → a < 256
     → pixel ((a * 65793 + 4278190080) % 256) ((a * 65793 + 4278190080) / 256 % 256) ((a * 65793 + 4278190080) / 65536 % 256) ((a * 65793 + 4278190080) / 16777216) ≡ factors a
-word-factors a l =
+plain-factors a l =
     let w : ℕ = a * 65793 + 4278190080 in
     let e0 : w % 256 ≡ a = low-byte w (a * 257 + 16711680) a (omega arith) l in
     let e1 : w / 256 % 256 ≡ a = low-byte (w / 256) (a + 65280) a (omega arith) l in
     let e2 : w / 65536 % 256 ≡ a = low-byte (w / 65536) 255 a (omega arith) l in
     let e3 : w / 16777216 ≡ 255 = omega arith in
     λ t. record { r = e0 t; g = e1 t; b = e2 t; a = e3 t }
+
+pub word-factors : (a v : ℕ) → a < 256 → v ≡ a * 16843009 + (255 - a) * 16777216 → pixel (v % 256) (v / 256 % 256) (v / 65536 % 256) (v / 16777216) ≡ factors a
+word-factors a v l e = let q : v ≡ a * 65793 + 4278190080 = omega arith in rw q (plain-factors a l)
 
 -- bytes scaled by the row of factors are pixels premultiplied
 pub covered-row : (d f₀ f d′ : List ℕ) (n : ℕ) → length d ≡ 4 * n

@@ -1,5 +1,5 @@
 -- The table of a colour matrix: its biased products, and their sum as a channel. Assumes nothing.
-use mathlib.Core.Path.{_≡_, sym, ap, _∙_}
+use mathlib.Core.Path.{_≡_, ap, _∙_}
 use mathlib.Core.Bool.{Bool, true, false, cond}
 use mathlib.Core.List.{List}
 use Prim.Native.Nat.{ℕ, _+_, _-_, _*_, _/_, _%_, _≤_, _<_, min}
@@ -7,7 +7,6 @@ use native.Mathlib.Nat.{mul-le-mul, add-mul-mod-self-right, mod-eq-of-lt}
 use native.Mathlib.Omega.{arith}
 use borrow.Author.Tests.{lt-ltb, le-ltb}
 use lib.Dec.{eqb}
-use lib.IntN.{subℕ}
 use lib.ListN.{length, getD}
 use Rattle.window.specs.Store.{Filled}
 use Rattle.number.specs.Number.{value}

@@ -1,7 +1,9 @@
 -- What the code's own steps work out. No promise to a caller cites these. Assumes nothing.
 use Prim.Native.Nat.{ℕ, _+_, _-_, _*_, _/_, _%_, min}
 use mathlib.Core.Bool.{cond}
+use mathlib.Core.List.{List}
 use lib.Dec.{ltb}
+use lib.ListN.{getD}
 use Rattle.pixel.specs.declared.Pixel.{Pixel}
 use Rattle.pixel.specs.declared.Matrix.{Matrix}
 use Rattle.pixel.specs.Alpha.{pixel, premultiplied}
@@ -23,6 +25,14 @@ product m i =
     (cond (ltb i 2048) (biased (rowAt m (i % 4) .g) (i / 4 % 256))
     (cond (ltb i 3072) (biased (rowAt m (i % 4) .b) (i / 4 % 256))
     (biased (rowAt m (i % 4) .a) (i / 4 % 256) + biased (rowAt m (i % 4) .one) 255 + 32768)))
+
+-- the entries of the table of luminance, one after another
+abbrev pub weight : ℕ → ℕ
+weight i = cond (ltb i 256) (13926 * i) (cond (ltb i 512) (46884 * (i - 256)) (4725 * (i - 512) + 32768))
+
+-- four bytes as one word
+abbrev pub wordAt : List ℕ → ℕ → ℕ
+wordAt d i = getD d i 0 + getD d (i + 1) 0 * 256 + getD d (i + 2) 0 * 65536 + getD d (i + 3) 0 * 16777216
 
 -- the four rows on a pixel, not yet premultiplied
 unfoldable pub mixed : Matrix → Pixel → Pixel

@@ -3,7 +3,7 @@ use super::store::lesser;
 use super::store::put;
 use pixel::Arithmetic;
 ghost use mathlib.Core.Path.{_≡_};
-ghost use Prim.Native.Nat.{ℕ, _+_, _-_, _*_, _/_, _≤_, _<_, min};
+ghost use Prim.Native.Nat.{_+_, _-_, _*_, _/_, _≤_, _<_, min};
 ghost use lib.ListN.{length, getD};
 ghost use Rattle.window.specs.Store.{Filled};
 ghost use Rattle.pixel.specs.Arithmetic.{channelOf, combined};
@@ -12,6 +12,7 @@ ghost use Rattle.raster_color.specs.Coefficient.{SmallArithmetic};
 ghost use Rattle.raster_color.specs.Tables.{Combines};
 ghost use Rattle.raster_color.specs.Code.{level};
 
+// A coefficient, above or below zero, times a byte.
 fn scaled(u: u64, x: u64) -> u64
     requires { ⌜ (u ≤ 16777216) × (x ≤ 255) ⌝ }
     ensures { λ r. ⌜ (r ≡ u * x) × (r ≤ 4278190080) ⌝ }
@@ -35,6 +36,7 @@ fn start(k2: u64, k4: u64, x: u64) -> u64
     255 * scaled(k2, x) + 65025 * k4
 }
 
+// The sum beside the second byte y.
 fn rise(slope: u64, start: u64, y: u64) -> u64
     requires { ⌜ (slope ≤ 8556380160) × (start ≤ 2181885296640) × (y ≤ 255) ⌝ }
     ensures { λ r. ⌜ (r ≡ slope * y + start) × (r ≤ 4363762237440) ⌝ }
@@ -69,6 +71,7 @@ fn fill_line(table: &mut [u8], o: usize, up: u64, above: u64, down: u64, below: 
     }
 }
 
+// The table of a step, from its coefficients.
 pub fn prepare(k: Arithmetic, table: &mut [u8])
     requires { ⌜ (length (now table) ≡ 65536) × SmallArithmetic k ⌝ }
     ensures { λ _. ⌜ Combines k (now (table .exit)) ⌝ }

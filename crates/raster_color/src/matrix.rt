@@ -6,10 +6,9 @@ use number::Fixed;
 use pixel::Matrix;
 use pixel::Row;
 ghost use mathlib.Core.Path.{_≡_};
-ghost use Prim.Native.Nat.{ℕ, _+_, _-_, _*_, _/_, _≤_, _<_, min};
-ghost use lib.IntN.{ℤ, pos};
-ghost use lib.ListN.{length, getD};
-ghost use Rattle.window.specs.Store.{Filled};
+ghost use Prim.Native.Nat.{_+_, _-_, _*_, _/_, _≤_, _<_, min};
+ghost use lib.IntN.{pos};
+ghost use lib.ListN.{length};
 ghost use Rattle.number.specs.Number.{value};
 ghost use Rattle.pixel.specs.Whole as Whole;
 ghost use Rattle.pixel.specs.Alpha.{Valid};
@@ -27,7 +26,7 @@ fn scaled(u: Fixed, x: u64) -> u64
     u.above * x + 4278190080 - u.below * x
 }
 
-// R, G, B, A are 0 to 3.
+// The row for R, G, B or A: 0 to 3.
 fn row_of(m: Matrix, c: usize) -> Row
     requires { ⌜ SmallMatrix m ⌝ }
     ensures { λ r. ⌜ (r ≡ rowAt m c) × SmallRow r ⌝ }
@@ -44,6 +43,7 @@ fn row_of(m: Matrix, c: usize) -> Row
     m.a
 }
 
+// The products of R, then of G, of B and of A; four rows beside each other.
 fn entry(m: Matrix, i: usize) -> u64
     requires { ⌜ SmallMatrix m × (i < 4096) ⌝ }
     ensures { λ r. ⌜ r ≡ product m i ⌝ }
@@ -62,6 +62,7 @@ fn entry(m: Matrix, i: usize) -> u64
     scaled(row.a, x) + scaled(row.one, 255) + 32768
 }
 
+// The table of a step, from its matrix.
 pub fn prepare(m: Matrix, table: &mut [u64])
     requires { ⌜ (length (now table) ≡ 4096) × SmallMatrix m ⌝ }
     ensures { λ _. ⌜ Mixes m (now (table .exit)) ⌝ }
@@ -122,6 +123,7 @@ fn mix(m: Matrix, table: &[u64], inverse: &[u32], src: &[u8], dst: &mut [u8], i:
     put(dst, i, red, green, blue, channel(m, table, 3, r, g, b, a));
 }
 
+// The same for a row of n pixels.
 fn mix_row(m: Matrix, table: &[u64], inverse: &[u32], src: &[u8], dst: &mut [u8], n: usize)
     requires { ⌜ Mixes m (now table) × SmallMatrix m × Unpremultiplies (now inverse) × ValidRow (now src) n ⌝ }
     requires { ⌜ (length (now src) ≡ 4 * n) × (length (now dst) ≡ 4 * n) ⌝ }

@@ -1,10 +1,11 @@
 // Premultiply a row of pixels in place.
+use super::store::alpha;
 use super::store::put_word;
 ghost use mathlib.Core.Path.{_≡_};
-ghost use Prim.Native.Nat.{ℕ, _+_, _-_, _*_, _/_, _≤_, _<_};
+ghost use Prim.Native.Nat.{_+_, _*_, _≤_};
 ghost use lib.ListN.{length, getD};
 ghost use Rattle.window.specs.Store.{Filled};
-ghost use Rattle.pixel.specs.Alpha.{pixel, premultiplied};
+ghost use Rattle.pixel.specs.Alpha.{premultiplied};
 ghost use Rattle.pixel.specs.Bytes.{pixelAt, Painted};
 ghost use Rattle.raster_color.specs.Code.{factors, covered};
 
@@ -16,17 +17,20 @@ fn premultiply(u: u8, a: u8) -> u8
     ((t + t / 256) / 256) as u8
 }
 
-// What each byte of a pixel is multiplied by: its alpha, and 255 for the alpha itself.
+// What each byte of a pixel is multiplied by: its alpha, and 255 for the alpha itself. The sum of two products keeps the
+// four bytes one word: with a constant in the highest the compiler would store them one by one.
 fn factor_row(d: &[u8], f: &mut [u8], n: usize)
     requires { ⌜ (length (now d) ≡ 4 * n) × (4 * n ≤ length (now f)) ⌝ }
     ensures { λ _. ⌜ Painted (λ x. factors (getD (now (d .entry)) (4 * x + 3) 0)) 0 0 n (now (f .entry)) (now (f .exit)) ⌝ }
 {
     for x in 0..n {
         let i = 4 * x;
-        put_word(f, i, (d[i + 3] as u32) * 65793 + 4278190080);
+        let a = alpha(d, i);
+        put_word(f, i, a * 16843009 + (255 - a) * 16777216);
     }
 }
 
+// Each byte by its factor.
 fn scale_row(f: &[u8], d: &mut [u8])
     requires { ⌜ length (now d) ≤ length (now f) ⌝ }
     ensures { λ _. ⌜ Filled (λ i. premultiplied (getD (now (d .entry)) i 0) (getD (now (f .entry)) i 0)) 0 (length (now (d .entry))) (now (d .entry)) (now (d .exit)) ⌝ }
@@ -36,6 +40,7 @@ fn scale_row(f: &[u8], d: &mut [u8])
     }
 }
 
+// Colours by their alpha.
 pub fn premultiply_row(d: &mut [u8], n: usize)
     requires { ⌜ (length (now d) ≡ 4 * n) × (n ≤ 1024) ⌝ }
     ensures { λ _. ⌜ Painted (λ x. covered (pixelAt (now (d .entry)) (4 * x))) 0 0 n (now (d .entry)) (now (d .exit)) ⌝ }

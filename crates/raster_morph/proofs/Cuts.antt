@@ -1,7 +1,7 @@
 -- Windows cut at the ends of the lines: two of them that overlap make a longer one, "cut" as well. Assumes nothing.
-use mathlib.Core.Path.{_≡_, refl, sym, ap, ap₂, _∙_}
+use mathlib.Core.Path.{_≡_, ap, _∙_}
 use mathlib.Core.Logic.{_⊎_, inl, inr, ⊎-elim}
-use Prim.Native.Nat.{ℕ, zero, suc, _+_, _-_, _≤_, _<_, min, max}
+use Prim.Native.Nat.{ℕ, _+_, _-_, _≤_, _<_, min, max}
 use native.Mathlib.Omega.{arith}
 use borrow.Author.Tests.{lt-ltb, le-ltb}
 use Rattle.window.specs.Window.{fold}
@@ -16,6 +16,12 @@ earlier-is s v = ⊎-elim (λ h. inl (h, simp (lt-ltb v s h))) (λ h. inr (h, si
 pub later-is : (t count v : ℕ) → ((v + t < count) × (later t count v ≡ v + t)) ⊎ ((count ≤ v + t) × (later t count v ≡ v))
 unfolding later
 later-is t count v = ⊎-elim (λ h. inl (h, simp (lt-ltb (v + t) count h))) (λ h. inr (h, simp (le-ltb (v + t) count h))) (lt-or-le (v + t) count)
+
+pub earlier-in : (s count v : ℕ) → v < count → earlier s v < count
+earlier-in s count v h = ⊎-elim (λ (e : (v < s) × (earlier s v ≡ v)). omega arith) (λ (e : (s ≤ v) × (earlier s v ≡ v - s)). omega arith) (earlier-is s v)
+
+pub later-in : (t count v : ℕ) → v < count → later t count v < count
+later-in t count v h = ⊎-elim (λ (e : (v + t < count) × (later t count v ≡ v + t)). omega arith) (λ (e : (count ≤ v + t) × (later t count v ≡ v)). omega arith) (later-is t count v)
 
 module _ (op : ℕ → ℕ → ℕ) (e : ℕ) (S : Semilattice op) (f : ℕ → ℕ) where
   -- the places lo up to hi

@@ -1,10 +1,10 @@
 -- The window of the definition, which reads 0 outside the lines, and the window cut at their ends. Assumes nothing.
-use mathlib.Core.Path.{_≡_, refl, sym, ap, ap₂, _∙_}
-use mathlib.Core.Logic.{_⊎_, inl, inr, ⊎-elim}
-use Prim.Native.Nat.{ℕ, zero, suc, _+_, _-_, _≤_, _<_, min, max}
+use mathlib.Core.Path.{_≡_, refl, ap, _∙_}
+use mathlib.Core.Logic.{⊎-elim}
+use Prim.Native.Nat.{ℕ, _+_, _-_, _≤_, _<_, min, max}
 use native.Mathlib.Omega.{arith}
 use borrow.Author.Tests.{lt-ltb, le-ltb, le-leb, lt-leb}
-use Rattle.window.specs.Window.{fold, behind, within, over, least, largest}
+use Rattle.window.specs.Window.{behind, within, least, largest}
 use Rattle.window.proofs.Store.{lt-or-le}
 use Rattle.raster_morph.specs.declared.Extreme.{Extreme}
 use Rattle.raster_morph.specs.declared.Extreme.the-variants.{Least, Largest}

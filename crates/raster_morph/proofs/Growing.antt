@@ -1,22 +1,22 @@
 -- Lines that hold windows: one line each at first, then longer ones from two shorter, the edges last. Assumes nothing.
-use mathlib.Core.Path.{_≡_, refl, sym, ap, ap₂, _∙_}
+use mathlib.Core.Path.{_≡_, refl, sym, ap, _∙_}
 use mathlib.Core.List.{List}
 use mathlib.Core.Logic.{_⊎_, inl, inr, ⊎-elim}
 use Prim.Native.Nat.{ℕ, _+_, _-_, _*_, _≤_, _<_, min}
 use native.Mathlib.Nat.{mul-le-mul-right}
 use native.Mathlib.Omega.{arith}
 use borrow.Author.Tests.{lt-ltb, le-ltb, le-leb, lt-leb}
-use lib.ListN.{length, getD}
+use lib.ListN.{getD}
 use Rattle.window.specs.Store.{Filled, Lined, byteAt}
-use Rattle.window.specs.Window.{within, column}
+use Rattle.window.specs.Window.{column}
 use Rattle.window.proofs.Store.{lt-or-le}
 use Rattle.raster_morph.specs.declared.Extreme.{Extreme}
 use Rattle.raster_morph.specs.declared.Extreme.the-variants.{Least, Largest}
 use Rattle.raster_morph.specs.Operation.{operation, start, extreme}
-use Rattle.raster_morph.specs.Ranges.{Outside, PingPong}
-use Rattle.raster_morph.specs.Growth.{cut, earlier, later, paired, windows, edged, edgedLine}
-use Rattle.raster_morph.proofs.Cuts.{earlier-is, later-is, cut-one, cut-grow, cut-limit}
-use Rattle.raster_morph.proofs.Edges.{lattice, start-byte, extreme-cut}
+use Rattle.raster_morph.specs.Ranges.{PingPong}
+use Rattle.raster_morph.specs.Growth.{windows, edged, edgedLine, Widened}
+use Rattle.raster_morph.proofs.Cuts.{cut-one, cut-limit}
+use Rattle.raster_morph.proofs.Edges.{start-byte, extreme-cut}
 use Rattle.raster_morph.proofs.Lines.{line-in, lined-off}
 
 -- each line is its own window
@@ -28,23 +28,14 @@ pingpong-start op a b n count d bytes = record {
   long = refl;
 }
 
-earlier-in : (s count v : ℕ) → v < count → earlier s v < count
-earlier-in s count v h = ⊎-elim (λ (e : (v < s) × (earlier s v ≡ v)). omega arith) (λ (e : (s ≤ v) × (earlier s v ≡ v - s)). omega arith) (earlier-is s v)
-
-later-in : (t count v : ℕ) → v < count → later t count v < count
-later-in t count v h = ⊎-elim (λ (e : (v + t < count) × (later t count v ≡ v + t)). omega arith) (λ (e : (count ≤ v + t) × (later t count v ≡ v)). omega arith) (later-is t count v)
-
--- windows longer by s and t, at the other place
-pub pingpong-grow : (op : Extreme) (a n count p q s t here there : ℕ) (d d₁ d₂ : List ℕ) → s ≤ p + 1 → t ≤ q + 1 → s + t ≤ p + q + 1
-    → PingPong (windows op d a n count p q) here there n count here d d₁ → Lined (paired (operation op) d₁ here n count s t) there n count d₁ d₂
-    → PingPong (windows op d a n count (p + s) (q + t)) there here n count there d d₂
-pingpong-grow op a n count p q s t here there d d₁ d₂ hs ht both W L = record {
+-- longer windows, at the other place
+pub pingpong-widen : (op : Extreme) (a n count p q p′ q′ here there : ℕ) (d d₁ d₂ : List ℕ) → PingPong (windows op d a n count p q) here there n count here d d₁
+    → Widened op p q p′ q′ here there n count d₁ d₂ → PingPong (windows op d a n count p′ q′) there here n count there d d₂
+pingpong-widen op a n count p q p′ q′ here there d d₁ d₂ P W = record {
   place = inl refl;
-  inside = λ v i h l. L .inside v i h l
-      ∙ ap₂ (operation op) (W .inside (earlier s v) i (earlier-in s count v h) l) (W .inside (later t count v) i (later-in t count v h) l)
-      ∙ cut-grow (operation op) (start op) (lattice op) (λ w. byteAt d a n w i) count p q s t v h hs ht both;
-  outside = λ j k m. lined-off _ _ _ _ _ _ j L k ∙ W .outside j m k;
-  long = L .long ∙ W .long;
+  inside = W .holds (λ w i. byteAt d a n w i) (P .inside);
+  outside = λ j k m. W .off j k ∙ P .outside j m k;
+  long = W .long ∙ P .long;
 }
 
 -- the two places under their own names

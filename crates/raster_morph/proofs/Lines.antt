@@ -1,11 +1,11 @@
 -- Laws of lines in a buffer: a run of lines more, stored from lines that lie apart from it. Assumes nothing.
-use mathlib.Core.Path.{_≡_, refl, sym, ap, ap₂, _∙_}
+use mathlib.Core.Path.{_≡_, refl, ap, ap₂, _∙_}
 use mathlib.Core.List.{List}
-use mathlib.Core.Logic.{_⊎_, inl, inr, ⊎-elim}
+use mathlib.Core.Logic.{inl, inr, ⊎-elim}
 use Prim.Native.Nat.{ℕ, _+_, _-_, _*_, _≤_, _<_}
 use native.Mathlib.Nat.{mul-le-mul-right}
 use native.Mathlib.Omega.{arith}
-use lib.ListN.{length, getD}
+use lib.ListN.{getD}
 use Rattle.window.specs.Store.{Filled, Lined, byteAt}
 use Rattle.window.proofs.Store.{lt-or-le}
 use Rattle.raster_morph.specs.Operation.{shifted}
@@ -16,9 +16,6 @@ use Rattle.raster_morph.proofs.Cuts.{earlier-is, later-is}
 -- a byte of a line lies among the bytes of the lines
 pub line-in : (n count v i : ℕ) → v < count → i < n → v * n + i < count * n
 line-in n count v i h l = omega (arith, mul-le-mul-right n h)
-
-pub lines-in : (n count v : ℕ) → v ≤ count → v * n ≤ count * n
-lines-in n count v h = mul-le-mul-right n h
 
 pub lined-none : (f : ℕ → ℕ → ℕ) (o n : ℕ) (d : List ℕ) → Lined f o n 0 d d
 lined-none f o n d = record { inside = λ v i h l. absurd (omega arith); before = λ i h. refl; after = λ i h. refl; long = refl }
@@ -45,14 +42,19 @@ lined-run f g o n x r d d₁ d₂ L F same = record {
 pub lined-off : (f : ℕ → ℕ → ℕ) (o n count : ℕ) (d d′ : List ℕ) (j : ℕ) → Lined f o n count d d′ → Outside o (count * n) j → getD d′ j 0 ≡ getD d j 0
 lined-off f o n count d d′ j L = ⊎-elim (L .before j) (L .after j)
 
+-- lines that lie apart from those that are stored are as they were
+pub source : (f : ℕ → ℕ → ℕ) (from to n count x v i : ℕ) (d d′ : List ℕ) → Apart from (count * n) to (count * n) → x ≤ count → Lined f to n x d d′ → v < count → i < n
+    → byteAt d′ from n v i ≡ byteAt d from n v i
+source f from to n count x v i d d′ apart fits L h l =
+    let k = line-in n count v i h l in
+    let p : x * n ≤ count * n = mul-le-mul-right n fits in
+    lined-off _ _ _ _ _ _ (from + v * n + i) L (⊎-elim (λ g. inl (omega (arith, k))) (λ g. inr (omega (arith, p))) apart)
+
 -- The lines x up to x + r at `to`, each from the lines w and w + u at `from` counted on with it, whose bytes are stored as one range.
 module _ (op : ℕ → ℕ → ℕ) (from to n count s t x r w u : ℕ) (d d₁ d₂ : List ℕ) (apart : Apart from (count * n) to (count * n)) (fits : x + r ≤ count) (reads : w + u + r ≤ count)
     (near : (j : ℕ) → j < r → earlier s (x + j) ≡ w + j) (far : (j : ℕ) → j < r → later t count (x + j) ≡ w + u + j) (L : Lined (paired op d from n count s t) to n x d d₁) where
-  source : (v i : ℕ) → v < count → i < n → byteAt d₁ from n v i ≡ byteAt d from n v i
-  source v i h l =
-      let k = line-in n count v i h l in
-      let p : x * n ≤ count * n = mul-le-mul-right n (omega arith) in
-      lined-off _ _ _ _ _ _ (from + v * n + i) L (⊎-elim (λ g. inl (omega (arith, k))) (λ g. inr (omega (arith, p))) apart)
+  was : (v i : ℕ) → v < count → i < n → byteAt d₁ from n v i ≡ byteAt d from n v i
+  was v i = source _ from to n count x v i d d₁ apart (omega arith) L
 
   pub run-more : (at first shift size : ℕ) → at ≡ to + x * n → first ≡ from + w * n → shift ≡ u * n → size ≡ r * n
       → Filled (shifted op d₁ first shift at) at (at + size) d₁ d₂ → Lined (paired op d from n count s t) to n (x + r) d d₂
@@ -61,7 +63,7 @@ module _ (op : ℕ → ℕ → ℕ) (from to n count s t x r w u : ℕ) (d d₁ 
       let k : to + x * n + (j * n + i) - (to + x * n) ≡ j * n + i = omega arith in
       let a : from + w * n + (j * n + i) ≡ from + (w + j) * n + i = omega arith in
       let b : from + w * n + u * n + (j * n + i) ≡ from + (w + u + j) * n + i = omega arith in
-      rw (k, a, b, near j h, far j h) (ap₂ op (source (w + j) i (omega arith) l) (source (w + u + j) i (omega arith) l)))
+      rw (k, a, b, near j h, far j h) (ap₂ op (was (w + j) i (omega arith) l) (was (w + u + j) i (omega arith) l)))
 
 -- Three runs make all of the lines: those with no line s before, those with both, those with no line t after.
 module _ (op : ℕ → ℕ → ℕ) (from to n count s t : ℕ) (d d₁ d₂ d₃ : List ℕ) (apart : Apart from (count * n) to (count * n)) (fits : s + t ≤ count) where

@@ -1,37 +1,42 @@
 -- Laws of ranges of one buffer: what lies outside a store, and a fold that stores apart from what it reads. Assumes nothing.
-use mathlib.Core.Path.{_≡_, refl, sym, ap, ap₂, _∙_}
+use mathlib.Core.Path.{_≡_, ap₂, _∙_}
 use mathlib.Core.List.{List}
 use mathlib.Core.Logic.{⊎-elim, inl, inr}
-use Prim.Native.Nat.{ℕ, _+_, _-_, _*_, _≤_, _<_}
+use Prim.Native.Nat.{ℕ, _+_, _-_, _≤_, _<_}
 use native.Mathlib.Omega.{arith}
 use lib.ListN.{length, getD, set}
 use Rattle.window.specs.Store.{Filled}
 use Rattle.window.proofs.Store.{filled-none, filled-more}
-use Rattle.raster_morph.specs.Operation.{shifted}
-use Rattle.raster_morph.specs.Ranges.{Outside, Apart}
+use Rattle.raster_morph.specs.Operation.{shifted, four}
+use Rattle.raster_morph.specs.Ranges.{Apart}
 
 -- nothing is stored yet
 pub filled-start : (f : ℕ → ℕ) (from to : ℕ) (d : List ℕ) → to ≡ from → Filled f from to d d
 filled-start f from to d e = rw e (filled-none f from d)
 
--- what lies outside the range that was stored
-pub filled-off : (f : ℕ → ℕ) (from to : ℕ) (d d′ : List ℕ) (j : ℕ) → Filled f from to d d′ → Outside from (to - from) j → from ≤ to → getD d′ j 0 ≡ getD d j 0
-filled-off f from to d d′ j F off l = ⊎-elim (F .before j) (λ h. F .after j (omega arith)) off
-
--- an index of the first range lies outside of the second
-pub apart-off : (o m p k j : ℕ) → Apart o m p k → o ≤ j → j < o + m → Outside p k j
-apart-off o m p k j apart l h = ⊎-elim (λ g. inl (omega arith)) (λ g. inr (omega arith)) apart
+-- what is read apart from the range is as it was
+pub kept : (f : ℕ → ℕ) (w to m i : ℕ) (d d′ : List ℕ) → Apart w m to m → i < m → Filled f to (to + i) d d′ → getD d′ (w + i) 0 ≡ getD d (w + i) 0
+kept f w to m i d d′ apart turn F = ⊎-elim (λ g. F .before (w + i) (omega arith)) (λ g. F .after (w + i) (omega arith)) apart
 
 -- one store more of a fold
-module _ (op : ℕ → ℕ → ℕ) (from shift to m i v : ℕ) (d d′ : List ℕ) (apart : Apart from (shift + m) to m) (turn : i < m) (room : to + m ≤ length d)
-    (F : Filled (shifted op d from shift to) to (to + i) d d′) (stored : v ≡ op (getD d′ (from + i) 0) (getD d′ (from + shift + i) 0)) where
-  kept : (j : ℕ) → j < shift + m → getD d′ (from + j) 0 ≡ getD d (from + j) 0
-  kept j h = filled-off _ _ _ _ _ (from + j) F (⊎-elim (λ g. inl (omega arith)) (λ g. inr (omega arith)) apart) (omega arith)
+module _ (to m i v : ℕ) (d d′ : List ℕ) (turn : i < m) (room : to + m ≤ length d) where
+  at-turn : to + i - to ≡ i
+  at-turn = omega arith
 
-  pub shifted-more : Filled (shifted op d from shift to) to (to + (i + 1)) d (set d′ (to + i) v)
-  shifted-more =
-      let e : to + i - to ≡ i = omega arith in
-      let a : from + shift + i ≡ from + (shift + i) = omega arith in
-      let q : v ≡ shifted op d from shift to (to + i) = stored ∙ rw (e, a) (ap₂ op (kept i (omega arith)) (kept (shift + i) (omega arith))) in
-      let l : to + (i + 1) ≡ to + i + 1 = omega arith in
-      rw l (filled-more _ _ _ _ _ _ (omega arith) (omega arith) q F)
+  fold-more : (f : ℕ → ℕ) → Filled f to (to + i) d d′ → v ≡ f (to + i) → Filled f to (to + (i + 1)) d (set d′ (to + i) v)
+  fold-more f F q = let l : to + (i + 1) ≡ to + i + 1 = omega arith in rw l (filled-more _ _ _ _ _ _ (omega arith) (omega arith) q F)
+
+  module _ (op : ℕ → ℕ → ℕ) where
+    pub shifted-more : (from shift : ℕ) → Apart from (shift + m) to m → Filled (shifted op d from shift to) to (to + i) d d′
+        → v ≡ op (getD d′ (from + i) 0) (getD d′ (from + shift + i) 0) → Filled (shifted op d from shift to) to (to + (i + 1)) d (set d′ (to + i) v)
+    shifted-more from shift apart F stored =
+        let a : Apart from m to m = ⊎-elim (λ g. inl (omega arith)) (λ g. inr (omega arith)) apart in
+        let b : Apart (from + shift) m to m = ⊎-elim (λ g. inl (omega arith)) (λ g. inr (omega arith)) apart in
+        fold-more (shifted op d from shift to) F (stored ∙ rw at-turn (ap₂ op (kept _ from to m i d d′ a turn F) (kept _ (from + shift) to m i d d′ b turn F)))
+
+    pub four-more : (w x y z first second : ℕ) → Apart w m to m → Apart x m to m → Apart y m to m → Apart z m to m → Filled (four op d w x y z to) to (to + i) d d′
+        → first ≡ op (getD d′ (w + i) 0) (getD d′ (x + i) 0) → second ≡ op (getD d′ (y + i) 0) (getD d′ (z + i) 0) → v ≡ op first second
+        → Filled (four op d w x y z to) to (to + (i + 1)) d (set d′ (to + i) v)
+    four-more w x y z first second aw ax ay az F e₁ e₂ stored =
+        let same : (k : ℕ) → Apart k m to m → getD d′ (k + i) 0 ≡ getD d (k + i) 0 = (λ k a. kept _ k to m i d d′ a turn F) in
+        fold-more (four op d w x y z to) F (stored ∙ ap₂ op e₁ e₂ ∙ rw at-turn (ap₂ op (ap₂ op (same w aw) (same x ax)) (ap₂ op (same y ay) (same z az))))

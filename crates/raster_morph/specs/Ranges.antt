@@ -15,6 +15,10 @@ Outside o m j = (j < o) ⊎ (o + m ≤ j)
 abbrev pub Apart : ℕ → ℕ → ℕ → ℕ → Type 0
 Apart o m p k = (o + m ≤ p) ⊎ (p + k ≤ o)
 
+-- the m bytes from w on lie in d, apart from the m bytes from `to` on
+abbrev pub Readable : ℕ → ℕ → ℕ → List ℕ → Type 0
+Readable w to m d = (w + m ≤ length d) × Apart w m to m
+
 -- f v i stands as byte i of line v, for count lines of n bytes from the index r on, which is a or b; the count lines at the other
 -- of the two may hold anything, and every other byte of d′ is that of d
 pub record PingPong (f : ℕ → ℕ → ℕ) (a b n count r : ℕ) (d d′ : List ℕ) : Type 0 where

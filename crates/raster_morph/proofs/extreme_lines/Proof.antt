@@ -1,6 +1,4 @@
 -- `raster_morph::extreme_lines` meets its contract: no window needs to be longer than the lines, and the edges come last. Assumes nothing.
-use Prim.Native.Nat.{_+_, _*_, _≤_}
-use mathlib.Core.Path.{_≡_}
 use mathlib.Core.Logic.{⊎-elim}
 use native.Mathlib.Omega.{arith}
 use borrow.Author.Needs.{needs}

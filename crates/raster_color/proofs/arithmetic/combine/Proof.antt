@@ -1,5 +1,4 @@
 -- `raster_color::arithmetic::combine` meets its contract: the four bytes stored are the channels looked up, the colours lowered. Assumes nothing.
-use mathlib.Core.Path.{_≡_, _∙_}
 use borrow.Author.Needs.{needs}
 use Rattle.pixel.specs.Arithmetic.{combined}
 use Rattle.raster_color.proofs.Painted.{painted-is}

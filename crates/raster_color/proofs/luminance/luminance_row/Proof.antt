@@ -10,10 +10,10 @@ use Rattle.raster_color.proofs.luminance.luminance_row.Statement.{state
 use Rattle.raster_color.proofs.luminance.luminance_row.Tie as tie
 
 abbrev Inv-loop : tie.InvT-loop
-Inv-loop table src dst₀ n x₀ dst x = (x ≤ n) × Painted (λ z. transformed luminance (pixelAt src (4 * z))) 0 0 x dst₀ dst
+Inv-loop table inverse src dst₀ n x₀ dst x = (x ≤ n) × Painted (λ z. transformed luminance (pixelAt src (4 * z))) 0 0 x dst₀ dst
 
 abbrev μ-loop : tie.MeasureT-loop
-μ-loop table src dst₀ n x₀ dst x = n - x
+μ-loop table inverse src dst₀ n x₀ dst x = n - x
 
 loop-holds : tie.Need-loop-holds Inv-loop μ-loop
 loop-holds c = (omega arith, painted-none _ _ _ _)
@@ -24,8 +24,8 @@ mul-weigh-pixel c = search needs
 weigh-pixel-requires : tie.Need-weigh-pixel-requires Inv-loop μ-loop
 weigh-pixel-requires c κs =
     let L = c .before .before .loop in
-    let s = c .before .before .before .before .before .before in
-    (s .pre .0, omega arith, omega (arith, L .inv .1 .long), s .pre .3 .valid (L .x) (c .before .loop-test .taken))
+    let s = c .before .before .before .before .before .before .before in
+    (s .pre .0, s .pre .1, omega arith, omega (arith, L .inv .1 .long), s .pre .4 .valid (L .x) (c .before .loop-test .taken))
 
 add-x : tie.Need-add-x Inv-loop μ-loop
 add-x c = search needs
@@ -43,7 +43,7 @@ same-length c = c .before .loop .inv .1 .long
 
 returns : tie.Need-returns Inv-loop μ-loop
 returns c =
-    let e : c .before .loop .x ≡ c .before .before .before .before .before .args .n = omega arith in
+    let e : c .before .loop .x ≡ c .before .before .before .before .before .before .args .n = omega arith in
     rw (← e) (c .before .loop .inv .1)
 
 pub luminance-row-spec : {M : Type 1} → statement M

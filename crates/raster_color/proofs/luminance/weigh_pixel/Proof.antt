@@ -1,5 +1,5 @@
 -- `raster_color::luminance::weigh_pixel` meets its contract: the law of the luminance of a pixel. Assumes nothing.
-use mathlib.Core.Path.{_≡_, _∙_}
+use mathlib.Core.Path.{_∙_}
 use borrow.Author.Needs.{needs}
 use Rattle.pixel.specs.Bytes.{pixelAt}
 use Rattle.raster_color.proofs.Painted.{painted-is}
@@ -51,9 +51,9 @@ returns c =
     let blue = c .before .before .before .before .before in
     let green = blue .before .before in
     let red = green .before .before in
-    let s = red .before .before .before .before .before .before in
+    let s = red .before .before .before .before .before .before .before in
     painted-is _ _ _ _ _
-    (luminance-pixel (pixelAt (s .args .src .now) (s .args .i)) _ (s .pre .3)
+    (luminance-pixel (pixelAt (s .args .src .now) (s .args .i)) _ (s .pre .4)
     (c .before .before .before .weigh .ensures ∙ rw (red .straight .ensures .0, green .straight2 .ensures .0, blue .straight3 .ensures .0)))
     (c .before .before .put .ensures)
 

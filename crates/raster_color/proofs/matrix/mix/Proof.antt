@@ -1,6 +1,5 @@
 -- `raster_color::matrix::mix` meets its contract: the four bytes stored are the matrix's rows on the unpremultiplied colours. Assumes nothing.
-use mathlib.Core.Path.{_≡_, _∙_}
-use Prim.Native.Nat.{ℕ, _+_, _<_}
+use Prim.Native.Nat.{_+_, _<_}
 use lib.ListN.{getD}
 use native.Mathlib.Omega.{arith}
 use borrow.Author.Needs.{needs}
@@ -26,7 +25,9 @@ shared-slice-read-straight : tie.Need-shared-slice-read-straight
 shared-slice-read-straight c = search needs
 
 straight-requires : tie.Need-straight-requires
-straight-requires c κs = search needs
+straight-requires c κs =
+    let s = c .before .before .before .before .before .before in
+    (s .pre .0 .2, omega (arith, s .pre .0 .3 .r, c .shared-slice-known5 .given (s .args .i)))
 
 add-straight : tie.Need-add-straight
 add-straight c = search needs
@@ -35,7 +36,9 @@ shared-slice-read-straight-2 : tie.Need-shared-slice-read-straight-2
 shared-slice-read-straight-2 c = search needs
 
 straight-requires-2 : tie.Need-straight-requires-2
-straight-requires-2 c κs = search needs
+straight-requires-2 c κs =
+    let s = c .before .before .before .before .before .before .before .before in
+    (s .pre .0 .2, omega (arith, s .pre .0 .3 .g, c .shared-slice-known6 .given (s .args .i + 1)))
 
 add-straight-2 : tie.Need-add-straight-2
 add-straight-2 c = search needs
@@ -44,7 +47,9 @@ shared-slice-read-straight-3 : tie.Need-shared-slice-read-straight-3
 shared-slice-read-straight-3 c = search needs
 
 straight-requires-3 : tie.Need-straight-requires-3
-straight-requires-3 c κs = search needs
+straight-requires-3 c κs =
+    let s = c .before .before .before .before .before .before .before .before .before .before in
+    (s .pre .0 .2, omega (arith, s .pre .0 .3 .b, c .shared-slice-known7 .given (s .args .i + 2)))
 
 cast-a : tie.Need-cast-a
 cast-a c = omega (arith, byte c)

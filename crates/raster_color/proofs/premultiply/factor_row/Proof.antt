@@ -1,5 +1,5 @@
 -- `raster_color::premultiply::factor_row` meets its contract: one pixel more in each turn, by the law of a word of factors. Assumes nothing.
-use mathlib.Core.Path.{_≡_}
+use mathlib.Core.Path.{_≡_, refl, ap, _∙_}
 use Prim.Native.Nat.{_+_, _-_, _*_, _≤_}
 use lib.ListN.{getD}
 use native.Mathlib.Omega.{arith}
@@ -23,20 +23,20 @@ loop-holds c = (omega arith, painted-none _ _ _ _)
 mul-i : tie.Need-mul-i Inv-loop μ-loop
 mul-i c = search needs
 
-add-put-word : tie.Need-add-put-word Inv-loop μ-loop
-add-put-word c = search needs
-
-shared-slice-read-put-word : tie.Need-shared-slice-read-put-word Inv-loop μ-loop
-shared-slice-read-put-word c = search needs
-
-cast-put-word : tie.Need-cast-put-word Inv-loop μ-loop
-cast-put-word c = omega (arith, c .shared-slice-known2 .given (4 * c .before .before .before .loop .x + 3))
+alpha-requires : tie.Need-alpha-requires Inv-loop μ-loop
+alpha-requires c κs = search needs
 
 mul-put-word : tie.Need-mul-put-word Inv-loop μ-loop
-mul-put-word c = omega (arith, c .shared-slice-known2 .given (4 * c .before .before .before .loop .x + 3))
+mul-put-word c = omega (arith, c .before .alpha .ensures .1)
 
-add-put-word-2 : tie.Need-add-put-word-2 Inv-loop μ-loop
-add-put-word-2 c = omega (arith, c .shared-slice-known2 .given (4 * c .before .before .before .loop .x + 3))
+sub-put-word : tie.Need-sub-put-word Inv-loop μ-loop
+sub-put-word c = omega (arith, c .before .alpha .ensures .1)
+
+mul-put-word-2 : tie.Need-mul-put-word-2 Inv-loop μ-loop
+mul-put-word-2 c = omega (arith, c .before .alpha .ensures .1)
+
+add-put-word : tie.Need-add-put-word Inv-loop μ-loop
+add-put-word c = omega (arith, c .before .alpha .ensures .1)
 
 put-word-requires : tie.Need-put-word-requires Inv-loop μ-loop
 put-word-requires c κs = omega (arith, c .before .before .before .loop .inv .1 .long)
@@ -49,10 +49,10 @@ loop-less c = search needs
 
 loop-again : tie.Need-loop-again Inv-loop μ-loop
 loop-again c =
-    let word = c .before .before .before in
-    let L = word .before .before .before .loop in
-    let byte = word .shared-slice-known2 .given (4 * L .x + 3) in
-    (omega arith, painted-more _ _ _ _ _ _ _ _ _ (omega arith) (omega arith) (word-factors _ (omega (arith, byte))) (L .inv .1) (c .before .before .put-word .ensures))
+    let alpha = c .before .before .before .before in
+    let L = alpha .before .before .loop in
+    let e = word-factors _ _ (alpha .alpha .ensures .1) refl ∙ ap factors (alpha .alpha .ensures .0) in
+    (omega arith, painted-more _ _ _ _ _ _ _ _ _ (omega arith) (omega arith) e (L .inv .1) (c .before .before .put-word .ensures))
 
 same-length : tie.Need-same-length Inv-loop μ-loop
 same-length c = c .before .loop .inv .1 .long
@@ -70,11 +70,11 @@ factor-row-spec =
     μ-loop
     loop-holds
     mul-i
-    add-put-word
-    shared-slice-read-put-word
-    cast-put-word
+    alpha-requires
     mul-put-word
-    add-put-word-2
+    sub-put-word
+    mul-put-word-2
+    add-put-word
     put-word-requires
     add-x
     loop-less

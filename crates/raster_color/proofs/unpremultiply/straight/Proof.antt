@@ -1,12 +1,11 @@
 -- `raster_color::unpremultiply::straight` meets its contract: the law of the two reciprocals. Assumes nothing.
-use mathlib.Core.Path.{_≡_, _∙_, ap₂}
-use Prim.Native.Nat.{ℕ, _+_, _*_, _/_, _≤_, _<_}
+use mathlib.Core.Path.{_≡_}
+use Prim.Native.Nat.{_+_, _*_, _/_, _≤_}
 use native.Mathlib.Nat.{mul-le-mul}
 use lib.ListN.{getD}
 use native.Mathlib.Omega.{arith}
 use borrow.Author.Needs.{needs}
 use Rattle.pixel.specs.Alpha.{unpremultiplied}
-use Rattle.raster_color.specs.Tables.{ceiling}
 use Rattle.raster_color.proofs.Reciprocals.{ceiling-le, straight-law, straight-lt}
 use Rattle.raster_color.proofs.unpremultiply.straight.Statement.{statement}
 use Rattle.raster_color.proofs.unpremultiply.straight.Tie as tie

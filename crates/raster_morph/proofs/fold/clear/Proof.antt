@@ -1,12 +1,12 @@
--- `raster_morph::clear` meets its contract: each turn stores one zero more. Assumes nothing.
+-- `raster_morph::fold::clear` meets its contract: each turn stores one zero more. Assumes nothing.
 use Prim.Native.Nat.{_-_, _≤_}
 use mathlib.Core.Path.{_≡_, refl}
 use native.Mathlib.Omega.{arith}
 use borrow.Author.Needs.{needs}
 use Rattle.window.specs.Store.{Filled}
 use Rattle.window.proofs.Store.{filled-none, filled-more}
-use Rattle.raster_morph.proofs.clear.Statement.{statement}
-use Rattle.raster_morph.proofs.clear.Tie as tie
+use Rattle.raster_morph.proofs.fold.clear.Statement.{statement}
+use Rattle.raster_morph.proofs.fold.clear.Tie as tie
 
 abbrev Inv-loop : tie.InvT-loop
 Inv-loop buf₀ from to i₀ buf i = (from ≤ i) × (i ≤ to) × Filled (λ _. 0) from i buf₀ buf

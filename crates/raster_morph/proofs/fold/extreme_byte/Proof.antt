@@ -1,8 +1,8 @@
--- `raster_morph::extreme_byte` meets its contract: by the two variants. Assumes nothing.
+-- `raster_morph::fold::extreme_byte` meets its contract: by the two variants. Assumes nothing.
 use borrow.Author.Needs.{needs}
 use Rattle.raster_morph.specs.Operation.{operation}
-use Rattle.raster_morph.proofs.extreme_byte.Statement.{statement}
-use Rattle.raster_morph.proofs.extreme_byte.Tie as tie
+use Rattle.raster_morph.proofs.fold.extreme_byte.Statement.{statement}
+use Rattle.raster_morph.proofs.fold.extreme_byte.Tie as tie
 
 enum-told : tie.Need-enum-told
 enum-told c = search needs

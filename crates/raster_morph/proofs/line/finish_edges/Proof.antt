@@ -1,8 +1,8 @@
--- `raster_morph::finish_edges` meets its contract: by the two variants. Assumes nothing.
+-- `raster_morph::line::finish_edges` meets its contract: by the two variants. Assumes nothing.
 use borrow.Author.Needs.{needs}
 use Rattle.raster_morph.proofs.Growing.{stayed}
-use Rattle.raster_morph.proofs.finish_edges.Statement.{statement}
-use Rattle.raster_morph.proofs.finish_edges.Tie as tie
+use Rattle.raster_morph.proofs.line.finish_edges.Statement.{statement}
+use Rattle.raster_morph.proofs.line.finish_edges.Tie as tie
 
 enum-told : tie.Need-enum-told
 enum-told c = search needs

@@ -1,11 +1,11 @@
--- `raster_morph::clear_edges` meets its contract: the first and the last lines are two ranges of bytes. Assumes nothing.
+-- `raster_morph::line::clear_edges` meets its contract: the first and the last lines are two ranges of bytes. Assumes nothing.
 use Prim.Native.Nat.{_*_, _≤_}
 use native.Mathlib.Omega.{arith}
 use native.Mathlib.Nat.{mul-le-mul-right}
 use borrow.Author.Needs.{needs}
 use Rattle.raster_morph.proofs.Growing.{cleared}
-use Rattle.raster_morph.proofs.clear_edges.Statement.{statement}
-use Rattle.raster_morph.proofs.clear_edges.Tie as tie
+use Rattle.raster_morph.proofs.line.clear_edges.Statement.{statement}
+use Rattle.raster_morph.proofs.line.clear_edges.Tie as tie
 
 -- the cleared lines lie among the lines
 first-in : (c : tie.After-lesser) → c .lesser .result * c .before .before .args .n ≤ c .before .before .args .count * c .before .before .args .n

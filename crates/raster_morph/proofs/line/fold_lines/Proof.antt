@@ -1,14 +1,14 @@
--- `raster_morph::fold_lines` meets its contract: the lines in three runs, each one fold of bytes. Assumes nothing.
+-- `raster_morph::line::fold_lines` meets its contract: the lines in three runs, each one fold of bytes. Assumes nothing.
 use Prim.Native.Nat.{_+_, _*_, _≤_}
-use mathlib.Core.Path.{_≡_, _∙_}
+use mathlib.Core.Path.{_∙_}
 use mathlib.Core.Logic.{inl, inr, ⊎-elim}
 use native.Mathlib.Omega.{arith}
 use native.Mathlib.Nat.{mul-le-mul-right}
 use borrow.Author.Needs.{needs}
 use Rattle.raster_morph.specs.Operation.{operation}
 use Rattle.raster_morph.proofs.Lines.{three-runs}
-use Rattle.raster_morph.proofs.fold_lines.Statement.{statement}
-use Rattle.raster_morph.proofs.fold_lines.Tie as tie
+use Rattle.raster_morph.proofs.line.fold_lines.Statement.{statement}
+use Rattle.raster_morph.proofs.line.fold_lines.Tie as tie
 
 -- the two edges lie among the lines
 room : (c : tie.Start) → c .args .s * c .args .n + c .args .t * c .args .n ≤ c .args .count * c .args .n

@@ -1,4 +1,4 @@
--- `raster_morph::fold_shifted` meets its contract: each turn stores one byte more of the fold. Assumes nothing.
+-- `raster_morph::fold::fold_shifted` meets its contract: each turn stores one byte more of the fold. Assumes nothing.
 use Prim.Native.Nat.{_+_, _-_, _≤_}
 use mathlib.Core.Path.{_≡_}
 use native.Mathlib.Omega.{arith}
@@ -6,8 +6,8 @@ use borrow.Author.Needs.{needs}
 use Rattle.window.specs.Store.{Filled}
 use Rattle.raster_morph.specs.Operation.{operation, shifted}
 use Rattle.raster_morph.proofs.Ranges.{filled-start, shifted-more}
-use Rattle.raster_morph.proofs.fold_shifted.Statement.{statement}
-use Rattle.raster_morph.proofs.fold_shifted.Tie as tie
+use Rattle.raster_morph.proofs.fold.fold_shifted.Statement.{statement}
+use Rattle.raster_morph.proofs.fold.fold_shifted.Tie as tie
 
 abbrev Inv-loop : tie.InvT-loop
 Inv-loop op buf₀ from to m shift i₀ buf i = (i ≤ m) × Filled (shifted (operation op) buf₀ from shift to) to (to + i) buf₀ buf
@@ -53,7 +53,7 @@ loop-again c =
     let turn = c .before .before .before in
     let L = turn .before .loop in
     let begin = turn .before .before .before in
-    (omega arith, shifted-more (operation (begin .args .op)) _ _ _ _ _ _ _ _ (begin .pre .2) (turn .loop-test .taken) (begin .pre .1) (L .inv .1) (c .extreme-byte .ensures))
+    (omega arith, shifted-more _ _ _ _ _ _ (turn .loop-test .taken) (begin .pre .1) (operation (begin .args .op)) _ _ (begin .pre .2) (L .inv .1) (c .extreme-byte .ensures))
 
 same-length : tie.Need-same-length Inv-loop μ-loop
 same-length c = c .before .loop .inv .1 .long

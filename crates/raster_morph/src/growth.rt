@@ -1,0 +1,99 @@
+// Windows that grow until they reach as far as is asked.
+ghost use mathlib.Core.Path.{_≡_};
+ghost use Prim.Native.Nat.{_+_, _*_, _≤_, _<_, max};
+ghost use lib.ListN.{length};
+ghost use Rattle.raster_morph.specs.Ranges.{Apart, PingPong};
+ghost use Rattle.raster_morph.specs.Growth.{Stretch, Towards, Widened, windows};
+use super::Extreme;
+use super::line::fold_lines;
+use super::line::fold_lines_twice;
+
+// The larger of two.
+pub fn larger(a: usize, b: usize) -> usize
+    ensures { λ r. ⌜ r ≡ max a b ⌝ }
+{
+    if a < b { b } else { a }
+}
+
+// How far windows reach.
+pub struct Reach {
+    back: usize,
+    ahead: usize,
+}
+
+// From p back and q ahead on towards `back` and `ahead`: the reach about doubles.
+pub fn stretch(p: usize, q: usize, back: usize, ahead: usize) -> Reach
+    requires { ⌜ (p ≤ back) × (q ≤ ahead) × (back ≤ 64) × (ahead ≤ 64) ⌝ }
+    ensures { λ r. ⌜ Stretch p q back ahead (r .back) (r .ahead) ⌝ }
+{
+    let s = window::lesser(larger(p, 1), back - p);
+    let t = window::lesser(window::lesser(q + 1, p + q + 1 - s), ahead - q);
+    Reach {
+        back: p + s,
+        ahead: q + t,
+    }
+}
+
+// Lines of this many bytes and more grow twice in one pass over them: a picture of such lines does not stay in the cache.
+pub const LONG: usize = 1024;
+
+// From the windows at `from` longer ones at `to`. The answer is their reach.
+pub fn widen(
+    op: Extreme,
+    buf: &mut [u8],
+    from: usize,
+    to: usize,
+    n: usize,
+    count: usize,
+    p: usize,
+    q: usize,
+    back: usize,
+    ahead: usize,
+) -> Reach
+    requires { ⌜ (from + count * n ≤ length (now buf)) × (to + count * n ≤ length (now buf)) × Apart from (count * n) to (count * n) ⌝ }
+    requires { ⌜ (p ≤ back) × (q ≤ ahead) × (back < count) × (ahead < count) × (back ≤ 64) × (ahead ≤ 64) ⌝ }
+    ensures { λ r. ⌜ Widened op p q (r .back) (r .ahead) from to n count (now (buf .entry)) (now (buf .exit)) ⌝ }
+    ensures { λ r. ⌜ Towards p q back ahead (r .back) (r .ahead) ⌝ }
+{
+    let one = stretch(p, q, back, ahead);
+    let s = one.back - p;
+    let t = one.ahead - q;
+    if n < LONG {
+        fold_lines(op, buf, from, to, n, count, s, t);
+        return one;
+    }
+    let two = stretch(one.back, one.ahead, back, ahead);
+    let s2 = two.back - one.back;
+    let t2 = two.ahead - one.ahead;
+    fold_lines_twice(op, buf, from, to, n, count, s, t, s2, t2);
+    two
+}
+
+// The windows of the count lines at a, cut at the ends of the lines, by windows that double. The answer is where they are.
+pub fn grow_windows(
+    op: Extreme,
+    buf: &mut [u8],
+    a: usize,
+    b: usize,
+    n: usize,
+    count: usize,
+    back: usize,
+    ahead: usize,
+) -> usize
+    requires { ⌜ (a + count * n ≤ length (now buf)) × (b + count * n ≤ length (now buf)) × Apart a (count * n) b (count * n) × (back < count) × (ahead < count) × (back ≤ 64) × (ahead ≤ 64) ⌝ }
+    ensures { λ r. ⌜ PingPong (windows op (now (buf .entry)) a n count back ahead) a b n count r (now (buf .entry)) (now (buf .exit)) ⌝ }
+{
+    let mut here = a;
+    let mut there = b;
+    let mut p: usize = 0;
+    let mut q: usize = 0;
+    while p + q < back + ahead {
+        let reach = widen(op, buf, here, there, n, count, p, q, back, ahead);
+        p = reach.back;
+        q = reach.ahead;
+        let old = here;
+        here = there;
+        there = old;
+    }
+    here
+}
