@@ -29,10 +29,6 @@ impl Tally {
             }
         }
     }
-
-    pub fn last_line(&self) -> String {
-        format!("{} passed, {} failed", self.passed, self.failed)
-    }
 }
 
 /// A case at 1,024 × 1,024: the shadow sheet, the glow sheet, then random ones of a few steps.
@@ -49,7 +45,15 @@ fn large(seed: u64) -> Case {
     let near = Region { x, y, width: random.below(SIDE - x).min(40), height: random.below(SIDE - y).min(40) };
     let source = if seed < 2 { source(SEED, pixels) } else { cases::picture(&mut random, pixels) };
     let rect = if seed < 2 { EDIT } else { near };
-    Case { width: SIDE, height: SIDE, steps, rect, source, workspace: vec![0; 4 * pixels * count], scratch: vec![1; 8 * pixels] }
+    Case {
+        width: SIDE,
+        height: SIDE,
+        steps,
+        rect,
+        source,
+        workspace: vec![0; 4 * pixels * count],
+        scratch: vec![1; 8 * pixels],
+    }
 }
 
 fn large_failures(renderer: &dyn Renderer, seed: u64) -> Vec<String> {
@@ -58,14 +62,15 @@ fn large_failures(renderer: &dyn Renderer, seed: u64) -> Vec<String> {
     results.into_iter().filter_map(Result::err).collect()
 }
 
-/// Seeded cases until the time is over, about a fifth of it on large ones; at least one large and a few hundred small.
+/// Seeded cases until the time is over, about a third of it on large ones; at least both large sheets and a few hundred
+/// small ones.
 pub fn compare(renderer: &dyn Renderer, seconds: u64, seed: u64) -> Tally {
     let mut tally = Tally::default();
     let (start, time) = (Instant::now(), Duration::from_secs(seconds));
     let mut on_large = Duration::ZERO;
     let (mut small, mut big) = (0, 0);
     while small < 300 || start.elapsed() < time {
-        if 5 * on_large <= start.elapsed() {
+        if big < 2 || 3 * on_large <= start.elapsed() {
             let began = Instant::now();
             tally.add(&format!("large case {big}"), 2, &large_failures(renderer, big));
             on_large += began.elapsed();

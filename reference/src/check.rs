@@ -57,7 +57,8 @@ fn buffers(call: &Call, fault: Fault) -> Result<(), Answer> {
     }
     let outside = call.rect.is_some_and(|rect| leaves(rect, width, height, fault.is(Fault::EmptyRectAnywhere)));
     let scratch = 8 * width * height;
-    let scratch_is_wrong = if fault.is(Fault::LongScratchAllowed) { call.scratch.len() < scratch } else { call.scratch.len() != scratch };
+    let scratch_is_wrong =
+        if fault.is(Fault::LongScratchAllowed) { call.scratch.len() < scratch } else { call.scratch.len() != scratch };
     let mut checks = [
         (2, call.source.len() != 4 * width * height),
         (3, steps == 0 || steps > MOST_STEPS),
@@ -77,12 +78,23 @@ fn buffers(call: &Call, fault: Fault) -> Result<(), Answer> {
     }
 }
 
-/// "A layer with a smaller number than the step's own", and as many inputs as the kind has.
+/// The inputs that the kind uses; others are never looked at.
+fn used(step: &Step) -> &[Input] {
+    let (_, most) = step.kind.inputs();
+    if step.kind == Kind::Merge {
+        &step.inputs
+    } else {
+        &step.inputs[..most.min(step.inputs.len())]
+    }
+}
+
+/// "An input is not allowed, or merge has 0 or above 4": a layer needs "a smaller number than the step's own".
 fn inputs_are_wrong(n: usize, step: &Step, fault: Fault) -> bool {
     let (least, most) = step.kind.inputs();
     let below = n + fault.choose(Fault::OwnLayerAllowed, 0, 1);
     let allowed = |input: &Input| !matches!(input, Input::Layer(layer) if *layer >= below);
-    step.inputs.len() < least || step.inputs.len() > most || !step.inputs.iter().all(allowed)
+    let used = used(step);
+    used.len() < least || used.len() > most || !used.iter().all(allowed)
 }
 
 /// Each number in its listed order through 8 to 11.
@@ -98,7 +110,9 @@ fn numbers(step: &Step, fault: Fault) -> Result<Vec<i64>, u8> {
 
 /// "255 times a blur's widest box is above 65,535."
 fn box_is_wrong(step: &Step, units: &[i64], fault: Fault) -> bool {
-    let size = |units: &i64| boxes(box_size(*units, fault), fault).iter().map(|(first, last)| last - first + 1).max().unwrap_or(0);
+    let size = |units: &i64| {
+        boxes(box_size(*units, fault), fault).iter().map(|(first, last)| last - first + 1).max().unwrap_or(0)
+    };
     step.kind == Kind::Blur && units.iter().any(|units| 255 * size(units) > 65_535)
 }
 
@@ -121,7 +135,7 @@ fn step(n: usize, step: &Step, call: &Call, fault: Fault) -> Result<Checked, u8>
     if leaves {
         return Err(13);
     }
-    Ok(Checked { kind: step.kind, region: step.region, inputs: step.inputs.clone(), colour: step.colour, units })
+    Ok(Checked { kind: step.kind, region: step.region, inputs: used(step).to_vec(), colour: step.colour, units })
 }
 
 /// The first pixel with a colour above its alpha, counted from 0 in its buffer.
@@ -133,7 +147,8 @@ fn bad_pixel(bytes: &[u8], fault: Fault) -> Option<usize> {
 /// Check 14: "source first, then in a redraw the workspace".
 fn pixels(call: &Call, fault: Fault) -> Result<(), Answer> {
     let source = bad_pixel(call.source, fault);
-    let workspace = call.rect.and_then(|_| bad_pixel(call.workspace, fault)).filter(|_| !fault.is(Fault::WorkspaceUnchecked));
+    let workspace =
+        call.rect.and_then(|_| bad_pixel(call.workspace, fault)).filter(|_| !fault.is(Fault::WorkspaceUnchecked));
     let in_layer = |pixel: usize| fault.choose(Fault::PixelInItsLayer, pixel, pixel % (call.width * call.height));
     let (first, second) = fault.choose(Fault::WorkspaceScannedFirst, (source, workspace), (workspace, source));
     match first.or(second) {

@@ -14,9 +14,27 @@ pub const ROOM: usize = 4096;
 
 /// What is compared. Answers are number + 256 · place; a view is offset · 2^32 + length; steps are lines of text.
 pub trait Renderer {
-    fn render(&self, width: usize, height: usize, steps: &[u8], source: &[u8], workspace: &mut [u8], scratch: &mut [u8]) -> u64;
+    fn render(
+        &self,
+        width: usize,
+        height: usize,
+        steps: &[u8],
+        source: &[u8],
+        workspace: &mut [u8],
+        scratch: &mut [u8],
+    ) -> u64;
     #[allow(clippy::too_many_arguments)]
-    fn redraw(&self, width: usize, height: usize, steps: &[u8], rect: Region, source: &[u8], workspace: &mut [u8], scratch: &mut [u8], count: &mut u64) -> u64;
+    fn redraw(
+        &self,
+        width: usize,
+        height: usize,
+        steps: &[u8],
+        rect: Region,
+        source: &[u8],
+        workspace: &mut [u8],
+        scratch: &mut [u8],
+        count: &mut u64,
+    ) -> u64;
     fn layer(&self, width: usize, height: usize, steps: usize, n: usize, workspace: &[u8]) -> u64;
     fn sheet(&self, text: &[u8], out: &mut [u8]) -> u64;
 }
@@ -25,13 +43,33 @@ pub trait Renderer {
 pub struct Reference(pub Fault);
 
 impl Renderer for Reference {
-    fn render(&self, width: usize, height: usize, steps: &[u8], source: &[u8], workspace: &mut [u8], scratch: &mut [u8]) -> u64 {
-        let answer = read_steps(steps, self.0).map(|steps| render(Sheet { width, height, steps: &steps }, source, workspace, scratch, self.0));
+    fn render(
+        &self,
+        width: usize,
+        height: usize,
+        steps: &[u8],
+        source: &[u8],
+        workspace: &mut [u8],
+        scratch: &mut [u8],
+    ) -> u64 {
+        let answer = read_steps(steps, self.0)
+            .map(|steps| render(Sheet { width, height, steps: &steps }, source, workspace, scratch, self.0));
         answer.unwrap_or_else(|refused| refused).packed()
     }
 
-    fn redraw(&self, width: usize, height: usize, steps: &[u8], rect: Region, source: &[u8], workspace: &mut [u8], scratch: &mut [u8], count: &mut u64) -> u64 {
-        let redrawn = read_steps(steps, self.0).map(|steps| redraw(Sheet { width, height, steps: &steps }, rect, source, workspace, scratch, self.0));
+    fn redraw(
+        &self,
+        width: usize,
+        height: usize,
+        steps: &[u8],
+        rect: Region,
+        source: &[u8],
+        workspace: &mut [u8],
+        scratch: &mut [u8],
+        count: &mut u64,
+    ) -> u64 {
+        let redrawn = read_steps(steps, self.0)
+            .map(|steps| redraw(Sheet { width, height, steps: &steps }, rect, source, workspace, scratch, self.0));
         let (answer, worked) = redrawn.unwrap_or_else(|refused| (refused, 0));
         *count = worked;
         answer.packed()
@@ -74,7 +112,11 @@ impl After {
         if self.count != rules.count {
             return Some(format!("count {}, rules {}", self.count, rules.count));
         }
-        for (name, a, b) in [("source", &self.source, &rules.source), ("workspace", &self.workspace, &rules.workspace), ("scratch", &self.scratch, &rules.scratch)] {
+        for (name, a, b) in [
+            ("source", &self.source, &rules.source),
+            ("workspace", &self.workspace, &rules.workspace),
+            ("scratch", &self.scratch, &rules.scratch),
+        ] {
             if let Some(byte) = first(a, b) {
                 return Some(format!("{name} byte {byte} is {}, rules {}", a[byte], b[byte]));
             }
@@ -143,8 +185,15 @@ pub fn same_view(renderer: &dyn Renderer, random: &mut Random) -> Result<(), Str
     let length = exact.filter(|length| *length <= 1 << 16).unwrap_or(64) + random.pick(&[0, 0, 0, 1, 4]);
     let n = random.pick(&[0, steps.wrapping_sub(1), steps, steps / 2, usize::MAX]);
     let workspace = vec![0; length];
-    let (ours, rules) = (renderer.layer(width, height, steps, n, &workspace), Reference(Fault::None).layer(width, height, steps, n, &workspace));
-    if ours == rules { Ok(()) } else { Err(format!("layer {n} of {steps} on {width} x {height}, {length} bytes: {ours:x}, rules {rules:x}")) }
+    let (ours, rules) = (
+        renderer.layer(width, height, steps, n, &workspace),
+        Reference(Fault::None).layer(width, height, steps, n, &workspace),
+    );
+    if ours == rules {
+        Ok(())
+    } else {
+        Err(format!("layer {n} of {steps} on {width} x {height}, {length} bytes: {ours:x}, rules {rules:x}"))
+    }
 }
 
 pub fn same_text(renderer: &dyn Renderer, text: &[u8]) -> Result<(), String> {
@@ -156,7 +205,11 @@ pub fn same_text(renderer: &dyn Renderer, text: &[u8]) -> Result<(), String> {
         return Ok(());
     }
     let ours = String::from_utf8_lossy(&out[..length.min(ROOM)]).into_owned();
-    Err(format!("sheet printed {ours:?}, rules {:?}, text {:?}", String::from_utf8_lossy(&rules), String::from_utf8_lossy(text)))
+    Err(format!(
+        "sheet printed {ours:?}, rules {:?}, text {:?}",
+        String::from_utf8_lossy(&rules),
+        String::from_utf8_lossy(text)
+    ))
 }
 
 /// How many comparisons a seeded case makes.
@@ -167,15 +220,10 @@ pub fn seeded(renderer: &dyn Renderer, seed: u64) -> Vec<String> {
     let mut random = Random::new(seed.wrapping_mul(0x5851_f42d_4c95_7f2d));
     let [a, b, c, d] = [(); 4].map(|()| same_text(renderer, &texts::text(&mut random)));
     let case = case(&mut random);
-    let results = [
-        a,
-        b,
-        c,
-        d,
-        same_call(renderer, &case, false),
-        same_call(renderer, &case, true),
-        redraw_is_render(renderer, &case, &mut random),
-        same_view(renderer, &mut random),
-    ];
+    let told = |result: Result<(), String>| result.map_err(|failure| format!("{failure}; {}", case.summary()));
+    let full = told(same_call(renderer, &case, false));
+    let part = told(same_call(renderer, &case, true));
+    let again = told(redraw_is_render(renderer, &case, &mut random));
+    let results = [a, b, c, d, full, part, again, same_view(renderer, &mut random)];
     results.into_iter().filter_map(Result::err).collect()
 }

@@ -14,11 +14,12 @@ fn blur_spread(units: i64, fault: Fault) -> i64 {
     } else if d % 2 == 1 {
         3 * (d - 1) / 2 - fault.choose(Fault::OddSpreadLess, 0, 1).min(d - 1)
     } else {
-        3 * d / 2 - 1 + match fault {
-            Fault::EvenSpreadLess => -1,
-            Fault::EvenSpreadMore => 1,
-            _ => 0,
-        }
+        3 * d / 2 - 1
+            + match fault {
+                Fault::EvenSpreadLess => -1,
+                Fault::EvenSpreadMore => 1,
+                _ => 0,
+            }
     }
 }
 

@@ -132,6 +132,10 @@ impl Fault {
 
     /// The rule's value, or the wrong one under that fault.
     pub fn choose<T>(self, fault: Fault, rule: T, wrong: T) -> T {
-        if self == fault { wrong } else { rule }
+        if self == fault {
+            wrong
+        } else {
+            rule
+        }
     }
 }

@@ -63,7 +63,9 @@ pub fn work(step: &Checked, stand: &Stand, fault: Fault) -> Picture {
             let m = luminance(fault);
             Picture::of(width, height, |x, y| matrix(&m, inputs[0].at(x, y), fault))
         }
-        Kind::Composite(operator) => Picture::of(width, height, |x, y| composite(operator, inputs[0].at(x, y), inputs[1].at(x, y), fault)),
+        Kind::Composite(operator) => {
+            Picture::of(width, height, |x, y| composite(operator, inputs[0].at(x, y), inputs[1].at(x, y), fault))
+        }
         Kind::Arithmetic => {
             let k: [i64; 4] = units[..].try_into().expect("4 numbers");
             Picture::of(width, height, |x, y| arithmetic(k, inputs[0].at(x, y), inputs[1].at(x, y), fault))

@@ -9,7 +9,8 @@
 //! - `step`, `check`, `render`: sheets, the refusal table, the entry points
 //! - `text`, `print`: the text form and what `sheet` prints
 //! - `fault`: wrong variants of the rules
-//! - `random`, `cases`, `compare`, `budget`, `library`, `sums`: seeded cases and the comparison
+//! - `random`, `cases`: seeded sheets, pictures, calls and texts
+//! - `compare`, `budget`, `library`, `program`, `sums`: the comparison, its runs, what it is run against
 
 pub mod budget;
 pub mod cases;
@@ -24,6 +25,7 @@ pub mod number;
 pub mod picture;
 pub mod pixel;
 pub mod print;
+pub mod program;
 pub mod random;
 pub mod rect;
 pub mod render;

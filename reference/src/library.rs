@@ -35,7 +35,14 @@ extern "C" {
         count: *mut u64,
     ) -> u64;
 
-    fn twillgoose_layer(width: usize, height: usize, steps: usize, n: usize, workspace: *const u8, workspace_length: usize) -> u64;
+    fn twillgoose_layer(
+        width: usize,
+        height: usize,
+        steps: usize,
+        n: usize,
+        workspace: *const u8,
+        workspace_length: usize,
+    ) -> u64;
 
     fn twillgoose_sheet(text: *const u8, text_length: usize, out: *mut u8, out_length: usize) -> u64;
 }
@@ -46,7 +53,15 @@ pub struct Library;
 // SAFETY of every call: each pointer and length come from one slice that lives through the call, and the library
 // writes only to the slices that are lent to it as mutable.
 impl Renderer for Library {
-    fn render(&self, width: usize, height: usize, steps: &[u8], source: &[u8], workspace: &mut [u8], scratch: &mut [u8]) -> u64 {
+    fn render(
+        &self,
+        width: usize,
+        height: usize,
+        steps: &[u8],
+        source: &[u8],
+        workspace: &mut [u8],
+        scratch: &mut [u8],
+    ) -> u64 {
         unsafe {
             twillgoose_render(
                 width,
@@ -63,7 +78,17 @@ impl Renderer for Library {
         }
     }
 
-    fn redraw(&self, width: usize, height: usize, steps: &[u8], rect: Region, source: &[u8], workspace: &mut [u8], scratch: &mut [u8], count: &mut u64) -> u64 {
+    fn redraw(
+        &self,
+        width: usize,
+        height: usize,
+        steps: &[u8],
+        rect: Region,
+        source: &[u8],
+        workspace: &mut [u8],
+        scratch: &mut [u8],
+        count: &mut u64,
+    ) -> u64 {
         unsafe {
             twillgoose_redraw(
                 width,

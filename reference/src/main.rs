@@ -14,6 +14,7 @@ const USAGE: &str = "usage:
   reference faults [CASES]           tries every seeded fault
   reference selftest SECONDS [SEED]  the comparison, of the rules with themselves
   reference compare SECONDS [SEED]   the comparison with the proved library (feature `library`)
+  reference program PATH [COUNT]     the comparison with a program `sheet`, run on each text
 ";
 
 fn main() -> ExitCode {
@@ -29,8 +30,12 @@ fn main() -> ExitCode {
         }
         (["faults"], ..) => faults(20_000),
         (["faults", _], Some(cases), _) => faults(cases),
-        (["selftest", _] | ["selftest", _, _], Some(seconds), Some(seed)) => compared(&reference::compare::Reference(Fault::None), seconds, seed),
+        (["selftest", _] | ["selftest", _, _], Some(seconds), Some(seed)) => {
+            compared(&reference::compare::Reference(Fault::None), seconds, seed)
+        }
         (["compare", _] | ["compare", _, _], Some(seconds), Some(seed)) => with_library(seconds, seed),
+        (["program", path], ..) => with_program(Path::new(path), 2000),
+        (["program", path, _], _, Some(count)) => with_program(Path::new(path), count),
         _ => {
             eprint!("{USAGE}");
             ExitCode::from(2)
@@ -63,7 +68,7 @@ fn done(result: std::io::Result<()>) -> ExitCode {
 fn write_texts(folder: &Path, seed: u64) -> ExitCode {
     let mut random = Random::new(seed);
     let mut all = texts::listed(&mut random);
-    while all.len() < 8000 || all.len() % 1000 != 0 {
+    while all.len() < 8000 {
         all.push(texts::text(&mut random));
     }
     let answers: Vec<Vec<u8>> = all.iter().map(|text| print::sheet(text, Fault::None)).collect();
@@ -90,13 +95,34 @@ fn write_texts(folder: &Path, seed: u64) -> ExitCode {
 fn faults(cases: u64) -> ExitCode {
     let (found, missed) = budget::faults(cases);
     println!("{found} passed, {missed} failed");
-    if missed == 0 { ExitCode::SUCCESS } else { ExitCode::FAILURE }
+    if missed == 0 {
+        ExitCode::SUCCESS
+    } else {
+        ExitCode::FAILURE
+    }
+}
+
+fn last_line(tally: &budget::Tally) -> ExitCode {
+    println!("{} passed, {} failed", tally.passed, tally.failed);
+    if tally.failed == 0 {
+        ExitCode::SUCCESS
+    } else {
+        ExitCode::FAILURE
+    }
 }
 
 fn compared(renderer: &dyn reference::compare::Renderer, seconds: u64, seed: u64) -> ExitCode {
-    let tally = budget::compare(renderer, seconds, seed);
-    println!("{}", tally.last_line());
-    if tally.failed == 0 { ExitCode::SUCCESS } else { ExitCode::FAILURE }
+    last_line(&budget::compare(renderer, seconds, seed))
+}
+
+fn with_program(path: &Path, count: u64) -> ExitCode {
+    match reference::program::compare(path, count as usize, 1) {
+        Ok(tally) => last_line(&tally),
+        Err(error) => {
+            eprintln!("{}: {error}", path.display());
+            ExitCode::FAILURE
+        }
+    }
 }
 
 #[cfg(feature = "library")]

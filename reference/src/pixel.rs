@@ -47,7 +47,8 @@ pub fn unpremultiply(c: i128, a: i128, fault: Fault) -> i128 {
 pub fn flood(colour: [u8; 3], opacity: i64, fault: Fault) -> Pixel {
     let half = fault.choose(Fault::FloodAlphaDown, 32_768, 0);
     let a = down(255 * i128::from(opacity) + half, 65_536);
-    let [r, g, b] = colour.map(|u| fault.choose(Fault::FloodNotPremultiplied, premultiply(i128::from(u), a, fault), i128::from(u)));
+    let [r, g, b] =
+        colour.map(|u| fault.choose(Fault::FloodNotPremultiplied, premultiply(i128::from(u), a, fault), i128::from(u)));
     [byte(r), byte(g), byte(b), byte(a)]
 }
 
@@ -102,7 +103,12 @@ pub fn merge(inputs: &[Pixel], fault: Fault) -> Pixel {
         return inputs.iter().rev().skip(1).fold(inputs[inputs.len() - 1], below);
     }
     if fault.is(Fault::MergeFirstOnTop) {
-        return inputs.iter().rev().copied().reduce(|there, next| composite(Operator::Over, next, there, fault)).unwrap_or(CLEAR);
+        return inputs
+            .iter()
+            .rev()
+            .copied()
+            .reduce(|there, next| composite(Operator::Over, next, there, fault))
+            .unwrap_or(CLEAR);
     }
     inputs.iter().copied().reduce(|there, next| composite(Operator::Over, next, there, fault)).unwrap_or(CLEAR)
 }
@@ -120,7 +126,8 @@ pub fn matrix(m: &Matrix, p: Pixel, fault: Fault) -> Pixel {
     };
     let old = [colour(0), colour(1), colour(2), alpha];
     let new = |row: usize| {
-        let m = |column: usize| i128::from(m[fault.choose(Fault::MatrixTransposed, 5 * row + column, 4 * column + row)]);
+        let m =
+            |column: usize| i128::from(m[fault.choose(Fault::MatrixTransposed, 5 * row + column, 4 * column + row)]);
         let constant = fault.choose(Fault::ConstantTimes256, 255, 256) * m(4);
         let half = fault.choose(Fault::MatrixDown, 32_768, 0);
         let value = down(m(0) * old[0] + m(1) * old[1] + m(2) * old[2] + m(3) * old[3] + constant + half, 65_536);
@@ -133,11 +140,8 @@ pub fn matrix(m: &Matrix, p: Pixel, fault: Fault) -> Pixel {
 }
 
 /// "The matrix of 002 and 003, as 0.213 + 0.787·s for R from R", in thousandths: what stands alone, what goes with s.
-const SATURATE: [[(i128, i128); 3]; 3] = [
-    [(213, 787), (715, -715), (72, -72)],
-    [(213, -213), (715, 285), (72, -72)],
-    [(213, -213), (715, -715), (72, 928)],
-];
+const SATURATE: [[(i128, i128); 3]; 3] =
+    [[(213, 787), (715, -715), (72, -72)], [(213, -213), (715, 285), (72, -72)], [(213, -213), (715, -715), (72, 928)]];
 
 /// "Each coefficient is worked exactly from s in units and rounded once to units, halves away from zero. Alpha is kept."
 pub fn saturate(s: i64, fault: Fault) -> Matrix {

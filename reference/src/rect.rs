@@ -29,7 +29,11 @@ impl Rect {
 
     /// "Width times height."
     pub fn area(self) -> u64 {
-        if self.is_empty() { 0 } else { ((self.right - self.left) * (self.bottom - self.top)) as u64 }
+        if self.is_empty() {
+            0
+        } else {
+            ((self.right - self.left) * (self.bottom - self.top)) as u64
+        }
     }
 
     pub fn cut(self, other: Rect) -> Rect {

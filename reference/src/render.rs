@@ -17,7 +17,14 @@ pub struct Sheet<'a> {
 }
 
 impl Sheet<'_> {
-    fn checked(&self, rect: Option<Region>, source: &[u8], workspace: &[u8], scratch: &mut [u8], fault: Fault) -> Result<Vec<Checked>, Answer> {
+    fn checked(
+        &self,
+        rect: Option<Region>,
+        source: &[u8],
+        workspace: &[u8],
+        scratch: &mut [u8],
+        fault: Fault,
+    ) -> Result<Vec<Checked>, Answer> {
         let call = Call { width: self.width, height: self.height, steps: self.steps, rect, source, workspace, scratch };
         let steps = check(&call, fault);
         // "A refusal changes nothing that was lent"; scratch "is all zero after an accepted call".
@@ -42,7 +49,11 @@ pub fn render(sheet: Sheet, source: &[u8], workspace: &mut [u8], scratch: &mut [
     let source = Picture::from_bytes(sheet.width, sheet.height, source);
     let mut stand = Stand::new(source, vec![blank.clone(); steps.len()], fault);
     for (n, step) in steps.iter().enumerate() {
-        let cut = fault.choose(Fault::RegionNotCut, Rect::of(step.region), Rect { left: 0, top: 0, right: 2048, bottom: 2048 });
+        let cut = fault.choose(
+            Fault::RegionNotCut,
+            Rect::of(step.region),
+            Rect { left: 0, top: 0, right: 2048, bottom: 2048 },
+        );
         stand.layers[n] = patch(cut, &work(step, &stand, fault), &blank);
     }
     store(&stand.layers, workspace);
@@ -50,7 +61,14 @@ pub fn render(sheet: Sheet, source: &[u8], workspace: &mut [u8], scratch: &mut [
 }
 
 /// "Inside it each pixel is worked from the inputs as they stand after earlier steps; outside, the layer keeps its bytes."
-pub fn redraw(sheet: Sheet, rect: Region, source: &[u8], workspace: &mut [u8], scratch: &mut [u8], fault: Fault) -> (Answer, u64) {
+pub fn redraw(
+    sheet: Sheet,
+    rect: Region,
+    source: &[u8],
+    workspace: &mut [u8],
+    scratch: &mut [u8],
+    fault: Fault,
+) -> (Answer, u64) {
     let steps = match sheet.checked(Some(rect), source, workspace, scratch, fault) {
         Ok(steps) => steps,
         Err(answer) => return (answer, 0),
@@ -59,7 +77,8 @@ pub fn redraw(sheet: Sheet, rect: Region, source: &[u8], workspace: &mut [u8], s
     let rects = rectangles(sheet.width, sheet.height, &steps, named, fault);
     let source = Picture::from_bytes(sheet.width, sheet.height, source);
     let size = 4 * sheet.width * sheet.height;
-    let old: Vec<Picture> = workspace.chunks_exact(size).map(|layer| Picture::from_bytes(sheet.width, sheet.height, layer)).collect();
+    let old: Vec<Picture> =
+        workspace.chunks_exact(size).map(|layer| Picture::from_bytes(sheet.width, sheet.height, layer)).collect();
     let mut stand = Stand::new(source.clone(), old.clone(), fault);
     let before = Stand::new(source, old, fault);
     for (n, step) in steps.iter().enumerate() {
@@ -81,7 +100,8 @@ fn store(layers: &[Picture], workspace: &mut [u8]) {
 /// in the lent workspace, all 4·W·H; otherwise an empty part at its start." Where it begins, and its length.
 pub fn layer(width: usize, height: usize, steps: usize, n: usize, workspace: &[u8], fault: Fault) -> (usize, usize) {
     let sizes = side_is_wrong(width) || side_is_wrong(height) || steps == 0 || steps > MOST_STEPS;
-    if sizes || workspace.len() != 4 * width * height * steps || n >= steps + fault.choose(Fault::ViewBeyondLast, 0, 1) {
+    if sizes || workspace.len() != 4 * width * height * steps || n >= steps + fault.choose(Fault::ViewBeyondLast, 0, 1)
+    {
         return (0, 0);
     }
     let size = 4 * width * height;

@@ -74,7 +74,9 @@ fn number(field: &[u8], fault: Fault) -> Option<Number> {
         None => 0,
         Some([]) if fault.is(Fault::BarePoint) => 0,
         Some(fraction) if fraction.len() == 5 && fault.is(Fault::FiveDecimals) => digits(fraction, 5)? / 10,
-        Some(fraction) => digits(fraction, 4)? * fault.choose(Fault::DecimalsNotPadded, 10_i64.pow(4 - fraction.len() as u32), 1),
+        Some(fraction) => {
+            digits(fraction, 4)? * fault.choose(Fault::DecimalsNotPadded, 10_i64.pow(4 - fraction.len() as u32), 1)
+        }
     };
     let size = 10_000 * ones + parts;
     let minus = minus && !(fault.is(Fault::MinusLostBelowOne) && ones == 0);
@@ -93,7 +95,11 @@ fn input(field: &[u8], fault: Fault) -> Option<Input> {
 /// "A flood byte above 255 .. is 15."
 fn flood_byte(field: &[u8], fault: Fault) -> Option<u8> {
     let value = whole(field, fault)?;
-    if fault.is(Fault::FloodByteWraps) { Some(value as u8) } else { u8::try_from(value).ok() }
+    if fault.is(Fault::FloodByteWraps) {
+        Some(value as u8)
+    } else {
+        u8::try_from(value).ok()
+    }
 }
 
 /// "A step is its kind, x, y, width, height, inputs, numbers."
@@ -226,5 +232,9 @@ pub fn read_steps(text: &[u8], fault: Fault) -> Result<Vec<Step>, Answer> {
             return Err(wrong(n, fault));
         }
     }
-    if open { Err(wrong(lines.len(), fault)) } else { Ok(steps) }
+    if open {
+        Err(wrong(lines.len(), fault))
+    } else {
+        Ok(steps)
+    }
 }

@@ -32,7 +32,11 @@ impl Wide {
     pub fn times(self, factor: u64) -> Wide {
         (0..64).rev().fold(Wide::ZERO, |sum, bit| {
             let twice = sum.plus(sum);
-            if factor >> bit & 1 == 1 { twice.plus(self) } else { twice }
+            if factor >> bit & 1 == 1 {
+                twice.plus(self)
+            } else {
+                twice
+            }
         })
     }
 
@@ -51,7 +55,11 @@ impl Wide {
     }
 
     fn bit(self, bit: u32) -> u128 {
-        if bit < 128 { self.low >> bit & 1 } else { self.high >> (bit - 128) & 1 }
+        if bit < 128 {
+            self.low >> bit & 1
+        } else {
+            self.high >> (bit - 128) & 1
+        }
     }
 
     /// The number itself, where it is below 2^128.
@@ -66,7 +74,8 @@ mod tests {
 
     #[test]
     fn agrees_with_narrow_arithmetic() {
-        for (a, b) in [(0u128, 1u128), (1 << 100, 3), (u128::MAX >> 1, 12_345_678_901), (999, 1000), (1 << 64, 1 << 32)] {
+        for (a, b) in [(0u128, 1u128), (1 << 100, 3), (u128::MAX >> 1, 12_345_678_901), (999, 1000), (1 << 64, 1 << 32)]
+        {
             assert_eq!(Wide::new(a).divided(Wide::new(b)), (Wide::new(a / b), Wide::new(a % b)));
             assert_eq!(Wide::new(a).plus(Wide::new(b)), Wide::new(a + b));
             assert_eq!(Wide::new(b).times(1000), Wide::new(b * 1000));

@@ -95,7 +95,8 @@ pub fn blur(input: &Picture, sx: i64, sy: i64, region: Rect, fault: Fault) -> Pi
     channels.values.iter_mut().for_each(|p| *p = p.map(|c| c * scale));
     let across = boxes(box_size(sx, fault), fault).into_iter().map(|b| (false, b));
     let down = boxes(box_size(sy, fault), fault).into_iter().map(|b| (true, b));
-    let passes: Vec<_> = if fault.is(Fault::VerticalFirst) { down.chain(across).collect() } else { across.chain(down).collect() };
+    let passes: Vec<_> =
+        if fault.is(Fault::VerticalFirst) { down.chain(across).collect() } else { across.chain(down).collect() };
     for (down, (first, last)) in passes {
         let size = last - first + 1;
         let half = fault.choose(Fault::BoxDown, size / 2, 0);

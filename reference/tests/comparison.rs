@@ -17,7 +17,8 @@ fn the_rules_agree_with_themselves() {
 #[test]
 fn every_fault_is_found() {
     assert!(ALL.len() >= 20);
-    let missed: Vec<&str> = ALL.iter().filter(|(fault, _)| find(*fault, 20_000).is_none()).map(|(_, text)| *text).collect();
+    let missed: Vec<&str> =
+        ALL.iter().filter(|(fault, _)| find(*fault, 20_000).is_none()).map(|(_, text)| *text).collect();
     assert_eq!(missed, Vec::<&str>::new());
 }
 
@@ -29,7 +30,16 @@ fn calls_of_every_answer() {
     for _ in 0..5_000 {
         let mut case = case(&mut random);
         let mut count = 0;
-        let answer = Reference(Fault::None).redraw(case.width, case.height, &case.steps, case.rect, &case.source, &mut case.workspace, &mut case.scratch, &mut count);
+        let answer = Reference(Fault::None).redraw(
+            case.width,
+            case.height,
+            &case.steps,
+            case.rect,
+            &case.source,
+            &mut case.workspace,
+            &mut case.scratch,
+            &mut count,
+        );
         seen[(answer & 255) as usize] += 1;
     }
     for number in (0..16).filter(|number| *number != 12) {

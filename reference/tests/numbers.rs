@@ -72,7 +72,7 @@ fn nearly_whole_is_not_whole() {
 fn singles_agree_with_doubles() {
     let mut random = Random::new(3);
     for _ in 0..20_000 {
-        let bits = random.next() as u32;
+        let bits = random.word() as u32;
         let value = f64::from(f32::from_bits(bits));
         let rule = if !value.is_finite() {
             Err(8)

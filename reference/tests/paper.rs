@@ -30,7 +30,10 @@ fn p2_unpremultiply() {
 #[test]
 fn p3_over() {
     assert_eq!(composite(Operator::Over, pixel(0x8000_0080), pixel(0x0000_ffff), RIGHT), pixel(0x8000_7fff));
-    assert_eq!(last_layer(1, 1, "flood 0 0 1 1 255 0 0 0.5\nover 0 0 1 1 0 src\n", &pixels("0000ffff")), pixels("80007fff"));
+    assert_eq!(
+        last_layer(1, 1, "flood 0 0 1 1 255 0 0 0.5\nover 0 0 1 1 0 src\n", &pixels("0000ffff")),
+        pixels("80007fff")
+    );
 }
 
 #[test]
@@ -128,7 +131,14 @@ fn merge_is_not_associative() {
 
 #[test]
 fn decimal_text() {
-    let cases = [(0, 0, "0"), (5000, 0, "0.5"), (-1, 0, "-0.0001"), (-25_000, 2, "-2.50"), (999_999_999, 0, "99999.9999"), (30_000, 4, "3.0000")];
+    let cases = [
+        (0, 0, "0"),
+        (5000, 0, "0.5"),
+        (-1, 0, "-0.0001"),
+        (-25_000, 2, "-2.50"),
+        (999_999_999, 0, "99999.9999"),
+        (30_000, 4, "3.0000"),
+    ];
     for (number, places, text) in cases {
         assert_eq!(print::number(Number::Decimal(number), places), text);
     }

@@ -39,7 +39,15 @@ fn nothing_outside_is_altered() {
         let source = picture(&mut random, width * height);
         let before = picture(&mut random, 3 * width * height);
         let rect = any_region(&mut random, width, height);
-        let call = Call { width, height, steps: &steps, rect: Some(rect), source: &source, workspace: &before, scratch: &vec![0; 8 * width * height] };
+        let call = Call {
+            width,
+            height,
+            steps: &steps,
+            rect: Some(rect),
+            source: &source,
+            workspace: &before,
+            scratch: &vec![0; 8 * width * height],
+        };
         let checked = check(&call, Fault::None).expect("accepted");
         let rects = rectangles(width, height, &checked, Rect::of(rect), Fault::None);
         let mut after = before.clone();
@@ -80,7 +88,10 @@ fn counts_by_hand() {
     // Radius 3 grows by 2 and 3; radius 1 by 0 and 1.
     assert_eq!(count("erode 0 0 20 10 src 3 1\n", [8, 4, 1, 1]), 12);
     // The smallest rectangle that holds (2, 2) and (12, 5): 11 by 4; the third input is empty.
-    assert_eq!(count("offset 0 0 20 10 src 10 3\nflood 0 0 20 10 0 0 0 1\nmerge 0 0 20 10 src 0 1\n", [2, 2, 1, 1]), 1 + 44);
+    assert_eq!(
+        count("offset 0 0 20 10 src 10 3\nflood 0 0 20 10 0 0 0 1\nmerge 0 0 20 10 src 0 1\n", [2, 2, 1, 1]),
+        1 + 44
+    );
     // An empty rectangle, inside the canvas, is no work.
     assert_eq!(count("blur 0 0 20 10 src 2 2\n", [20, 10, 0, 0]), 0);
     assert_eq!(count("blur 0 0 20 10 src 2 2\n", [3, 3, 4, 0]), 0);

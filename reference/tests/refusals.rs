@@ -24,7 +24,15 @@ impl Given {
     fn new(lines: &str) -> Given {
         let steps = steps(lines);
         let workspace = vec![0; 16 * steps.len()];
-        Given { width: 2, height: 2, steps, rect: Some(region(0, 0, 2, 2)), source: vec![0; 16], workspace, scratch: vec![0; 32] }
+        Given {
+            width: 2,
+            height: 2,
+            steps,
+            rect: Some(region(0, 0, 2, 2)),
+            source: vec![0; 16],
+            workspace,
+            scratch: vec![0; 32],
+        }
     }
 
     fn answer(&self) -> (u8, u64) {
@@ -101,7 +109,15 @@ fn numbers_of_steps() {
 #[test]
 fn rectangles() {
     let far = usize::MAX;
-    let wrong = [region(0, 0, 3, 1), region(0, 2, 1, 1), region(3, 0, 0, 0), region(0, 3, 1, 0), region(far, 0, 1, 1), region(1, 0, far, 1), region(far, far, far, far)];
+    let wrong = [
+        region(0, 0, 3, 1),
+        region(0, 2, 1, 1),
+        region(3, 0, 0, 0),
+        region(0, 3, 1, 0),
+        region(far, 0, 1, 1),
+        region(1, 0, far, 1),
+        region(far, far, far, far),
+    ];
     let right = [region(2, 2, 0, 0), region(0, 0, 0, 2), region(1, 1, 1, 1)];
     for (rects, number) in [(&wrong[..], 6), (&right[..], 0)] {
         for rect in rects {
@@ -117,7 +133,12 @@ fn rectangles() {
 #[test]
 fn inputs() {
     let first = "flood 0 0 2 2 1 2 3 1\n";
-    for (line, answer) in [("over 0 0 2 2 0 1\n", (7, 1)), ("over 0 0 2 2 1 0\n", (7, 1)), ("merge 0 0 2 2 0 src 0 9999\n", (7, 1)), ("merge 0 0 2 2 0 src 0 alpha\n", (0, 0))] {
+    for (line, answer) in [
+        ("over 0 0 2 2 0 1\n", (7, 1)),
+        ("over 0 0 2 2 1 0\n", (7, 1)),
+        ("merge 0 0 2 2 0 src 0 9999\n", (7, 1)),
+        ("merge 0 0 2 2 0 src 0 alpha\n", (0, 0)),
+    ] {
         assert_eq!(Given::new(&format!("{first}{line}")).answer(), answer);
     }
     for count in [0, 5] {
@@ -128,18 +149,38 @@ fn inputs() {
 }
 
 #[test]
+fn unused_inputs_and_numbers_are_not_looked_at() {
+    let mut given = Given::new("flood 0 0 2 2 1 2 3 1\nlumalpha 0 0 2 2 0\n");
+    given.steps[0].inputs = vec![Input::Layer(9)];
+    given.steps[1].inputs.push(Input::Layer(9));
+    given.steps[1].numbers.push(Number::Single(0x7fc0_0000));
+    assert_eq!(given.answer(), (0, 0));
+}
+
+#[test]
 fn steps_in_order_and_numbers_in_order() {
     let bad = "offset 0 0 2 2 src 0.5 x7fc00000\n";
     assert_eq!(Given::new(&format!("{COPY}{bad}")).answer(), (11, 1));
     assert_eq!(Given::new(&format!("{COPY}{COPY}lumalpha 0 0 3 2 src\n{bad}")).answer(), (13, 2));
-    assert_eq!(Given::new("matrix 0 0 2 2 src 0 0 0 0 0 0 0 0 0 0 0 0 0 0 0 0 0 0 256.0001 x7fc00000\n").answer(), (10, 0));
+    assert_eq!(
+        Given::new("matrix 0 0 2 2 src 0 0 0 0 0 0 0 0 0 0 0 0 0 0 0 0 0 0 256.0001 x7fc00000\n").answer(),
+        (10, 0)
+    );
     assert_eq!(Given::new("blur 0 0 2 2 src 33 -1\n").answer(), (10, 0));
     assert_eq!(Given::new("blur 0 0 2 2 src -1 33\n").answer(), (9, 0));
 }
 
 #[test]
 fn regions() {
-    for (line, number) in [("0 0 2 3", 13), ("2 0 1 1", 13), ("2 2 0 0", 0), ("3 0 0 0", 13), ("0 3 0 0", 13), ("9999 9999 9999 9999", 13), ("0 0 1025 0", 13)] {
+    for (line, number) in [
+        ("0 0 2 3", 13),
+        ("2 0 1 1", 13),
+        ("2 2 0 0", 0),
+        ("3 0 0 0", 13),
+        ("0 3 0 0", 13),
+        ("9999 9999 9999 9999", 13),
+        ("0 0 1025 0", 13),
+    ] {
         assert_eq!(Given::new(&format!("lumalpha {line} src\n")).answer(), (number, 0), "{line}");
     }
 }
@@ -170,17 +211,28 @@ fn a_refusal_leaves_the_buffers() {
         assert_ne!(drawn(2, 2, &steps(line), &[0; 16]).0, Answer::DONE);
     }
     let mut workspace = vec![5, 4, 4, 4];
-    assert_eq!(redrawn(1, 1, &steps("lumalpha 0 0 1 1 src\n"), region(0, 0, 1, 1), &[0; 4], &mut workspace), (Answer::refused(14, 0), 0));
+    assert_eq!(
+        redrawn(1, 1, &steps("lumalpha 0 0 1 1 src\n"), region(0, 0, 1, 1), &[0; 4], &mut workspace),
+        (Answer::refused(14, 0), 0)
+    );
     assert_eq!(workspace, [5, 4, 4, 4]);
 }
 
 #[test]
 fn view() {
-    let workspace = vec![0; 3 * 24];
-    let shown = |width, height, steps, n, length: usize| layer(width, height, steps, n, &workspace[..length], Fault::None);
+    let workspace = [0; 3 * 24];
+    let shown =
+        |width, height, steps, n, length: usize| layer(width, height, steps, n, &workspace[..length], Fault::None);
     assert_eq!(shown(2, 3, 3, 0, 72), (0, 24));
     assert_eq!(shown(2, 3, 3, 2, 72), (48, 24));
-    for (width, height, steps, n, length) in [(2, 3, 3, 3, 72), (2, 3, 3, 0, 71), (0, 3, 3, 0, 0), (2, 3, 0, 0, 0), (1, 1, 17, 0, 68), (usize::MAX, 3, 3, 0, 72)] {
+    for (width, height, steps, n, length) in [
+        (2, 3, 3, 3, 72),
+        (2, 3, 3, 0, 71),
+        (0, 3, 3, 0, 0),
+        (2, 3, 0, 0, 0),
+        (1, 1, 17, 0, 68),
+        (usize::MAX, 3, 3, 0, 72),
+    ] {
         assert_eq!(shown(width, height, steps, n, length), (0, 0));
     }
 }

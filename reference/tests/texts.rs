@@ -55,7 +55,10 @@ fn sixteen_steps_and_one_more() {
     refused(&format!("canvas 1 1\n{}row 00000000\n", step.repeat(17)), 15, 18);
     let tabs = step.replace(' ', "\t");
     assert_eq!(read_steps(tabs.repeat(16).as_bytes(), Fault::None).map(|steps| steps.len()), Ok(16));
-    assert_eq!(read_steps(tabs.repeat(17).as_bytes(), Fault::None).map_err(|answer| (answer.number, answer.place)), Err((15, 17)));
+    assert_eq!(
+        read_steps(tabs.repeat(17).as_bytes(), Fault::None).map_err(|answer| (answer.number, answer.place)),
+        Err((15, 17))
+    );
     assert_eq!(read_steps(b"", Fault::None), Ok(Vec::new()));
 }
 
@@ -65,10 +68,33 @@ fn number_fields() {
     for field in ["0", "-0", "-0.0000", "0.0", "1.5", "31.9999", "x00000000", "x80000000", "x3fc00000"] {
         assert_eq!(blur(field), OK, "{field}");
     }
-    for field in ["", "00", "01", "+1", "1.", ".5", "1.00000", "100000", "000000", "--1", "-", "-x00000000", "x0000000", "x000000000", "X00000000", "x7FC00000", "1e1", "1,5", "1.5.5", "nan"] {
+    for field in [
+        "",
+        "00",
+        "01",
+        "+1",
+        "1.",
+        ".5",
+        "1.00000",
+        "100000",
+        "000000",
+        "--1",
+        "-",
+        "-x00000000",
+        "x0000000",
+        "x000000000",
+        "X00000000",
+        "x7FC00000",
+        "1e1",
+        "1,5",
+        "1.5.5",
+        "nan",
+    ] {
         assert_eq!(blur(field), "refused\t15\t2\n", "{field}");
     }
-    for (field, number) in [("99999", 10), ("99999.9999", 10), ("-99999", 9), ("-0.0001", 9), ("32.0001", 10), ("xffc00000", 8)] {
+    for (field, number) in
+        [("99999", 10), ("99999.9999", 10), ("-99999", 9), ("-0.0001", 9), ("32.0001", 10), ("xffc00000", 8)]
+    {
         assert_eq!(blur(field), format!("refused\t{number}\t0\n"), "{field}");
     }
 }
@@ -76,13 +102,35 @@ fn number_fields() {
 #[test]
 fn whole_fields_inputs_and_words() {
     let line = |line: &str| printed(&format!("canvas 1 1\n{line}\nrow 00000000\n"));
-    for wrong in ["lumalpha 00 0 1 1 src", "lumalpha 0 -0 1 1 src", "lumalpha 0 0 1.0 1 src", "lumalpha 10000 0 1 1 src", "lumalpha 0 0 1 1 01", "lumalpha 0 0 1 1 Src"] {
+    for wrong in [
+        "lumalpha 00 0 1 1 src",
+        "lumalpha 0 -0 1 1 src",
+        "lumalpha 0 0 1.0 1 src",
+        "lumalpha 10000 0 1 1 src",
+        "lumalpha 0 0 1 1 01",
+        "lumalpha 0 0 1 1 Src",
+    ] {
         assert_eq!(line(wrong), "refused\t15\t2\n", "{wrong}");
     }
-    for wrong in ["Blur 0 0 1 1 src 0 0", "gauss 0 0 1 1 src 0 0", "blur 0 0 1 1 src 0", "blur 0 0 1 1 src 0 0 0", "blur 0 0 1 1 0 0", "over 0 0 1 1 src", "merge 0 0 1 1", "merge 0 0 1 1 src src src src src"] {
+    for wrong in [
+        "Blur 0 0 1 1 src 0 0",
+        "gauss 0 0 1 1 src 0 0",
+        "blur 0 0 1 1 src 0",
+        "blur 0 0 1 1 src 0 0 0",
+        "blur 0 0 1 1 0 0",
+        "over 0 0 1 1 src",
+        "merge 0 0 1 1",
+        "merge 0 0 1 1 src src src src src",
+    ] {
         assert_eq!(line(wrong), "refused\t15\t2\n", "{wrong}");
     }
-    for wrong in ["flood 0 0 1 1 256 0 0 1", "flood 0 0 1 1 0 0 1", "flood 0 0 1 1 src 0 0 0 1", "flood 0 0 1 1 0 0 0 0 1", "flood 0 0 1 1 1.0 0 0 1"] {
+    for wrong in [
+        "flood 0 0 1 1 256 0 0 1",
+        "flood 0 0 1 1 0 0 1",
+        "flood 0 0 1 1 src 0 0 0 1",
+        "flood 0 0 1 1 0 0 0 0 1",
+        "flood 0 0 1 1 1.0 0 0 1",
+    ] {
         assert_eq!(line(wrong), "refused\t15\t2\n", "{wrong}");
     }
     assert_eq!(line("lumalpha 0 0 1 1 9999"), "refused\t7\t0\n");

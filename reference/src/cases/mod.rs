@@ -21,6 +21,15 @@ pub struct Case {
     pub scratch: Vec<u8>,
 }
 
+impl Case {
+    /// The case in words, without its pictures.
+    pub fn summary(&self) -> String {
+        let Region { x, y, width, height } = self.rect;
+        let steps = String::from_utf8_lossy(&self.steps);
+        format!("{} x {}, rectangle {x} {y} {width} {height}, steps {steps:?}", self.width, self.height)
+    }
+}
+
 /// A region or rectangle inside the canvas, empty at times; whole at times.
 pub fn region(random: &mut Random, width: usize, height: usize) -> Region {
     if random.once_in(3) {
@@ -65,14 +74,24 @@ pub fn step(random: &mut Random, n: usize, width: usize, height: usize, wild: bo
     if wild && kind == Kind::Merge && random.once_in(8) {
         inputs = random.pick(&[0, most + 1]);
     }
-    let number = |random: &mut Random, range| if wild && random.once_in(4) { numbers::wild(random, range) } else { numbers::allowed(random, range) };
+    let number = |random: &mut Random, range| {
+        if wild && random.once_in(4) {
+            numbers::wild(random, range)
+        } else {
+            numbers::allowed(random, range)
+        }
+    };
     let mut numbers: Vec<Number> = kind.ranges().iter().map(|range| number(random, *range)).collect();
     if !wild && random.once_in(2) {
         plain_numbers(random, kind, &mut numbers);
     }
     Step {
         kind,
-        region: if wild && random.once_in(6) { wild_region(random, width, height, 9999) } else { region(random, width, height) },
+        region: if wild && random.once_in(6) {
+            wild_region(random, width, height, 9999)
+        } else {
+            region(random, width, height)
+        },
         inputs: (0..inputs).map(|_| input(random, n, wild)).collect(),
         colour: if kind == Kind::Flood { [random.byte(), random.byte(), random.byte()] } else { [0; 3] },
         numbers,
@@ -93,7 +112,11 @@ fn plain_numbers(random: &mut Random, kind: Kind, numbers: &mut [Number]) {
             row.fill(Number::Decimal(0));
             row[end - 2..].copy_from_slice(&numbers::fine_pair(random));
         } else {
-            row.iter_mut().for_each(|number| if random.once_in(2) { *number = Number::Decimal(0) });
+            row.iter_mut().for_each(|number| {
+                if random.once_in(2) {
+                    *number = Number::Decimal(0)
+                }
+            });
         }
     }
 }
@@ -110,7 +133,13 @@ pub fn picture(random: &mut Random, pixels: usize) -> Vec<u8> {
         let alpha = match style {
             0 => 255,
             1 => random.byte(),
-            2 => if random.once_in(8) { 255 } else { 0 },
+            2 => {
+                if random.once_in(8) {
+                    255
+                } else {
+                    0
+                }
+            }
             _ => random.pick(&[0, 1, 2, 3, 127, 128, 254, 255]),
         };
         let colour = |random: &mut Random| match random.below(4) {
@@ -135,7 +164,8 @@ pub fn damage_picture(random: &mut Random, bytes: &mut [u8]) {
 
 fn damage_length(random: &mut Random, bytes: &mut Vec<u8>) {
     let length = bytes.len();
-    let other = random.pick(&[0, length.saturating_sub(1), length.saturating_sub(4), length + 1, length + 4, 2 * length]);
+    let other =
+        random.pick(&[0, length.saturating_sub(1), length.saturating_sub(4), length + 1, length + 4, 2 * length]);
     bytes.resize(other, 0);
 }
 

@@ -11,12 +11,16 @@ fn single(over: i64, under: i64) -> Number {
 }
 
 fn whole(random: &mut Random, n: i64) -> Number {
-    if random.once_in(3) { single(n, 1) } else { Number::Decimal(10_000 * n) }
+    if random.once_in(3) {
+        single(n, 1)
+    } else {
+        Number::Decimal(10_000 * n)
+    }
 }
 
 /// A number that its range allows.
 pub fn allowed(random: &mut Random, range: Range) -> Number {
-    if random.once_in(6) {
+    if random.once_in(if range.high == 32 { 3 } else { 6 }) {
         return edge(random, range);
     }
     // Small sizes show more on a small canvas.
@@ -44,7 +48,13 @@ fn edge(random: &mut Random, range: Range) -> Number {
         }
     }
     let high = (range.high as f32).to_bits();
-    let inside = [Number::Single(high - 1), Number::Single(1), Number::Single(0x3380_0000), Number::Decimal(1), Number::Single(0x3700_0000)];
+    let inside = [
+        Number::Single(high - 1),
+        Number::Single(1),
+        Number::Single(0x3380_0000),
+        Number::Decimal(1),
+        Number::Single(0x3700_0000),
+    ];
     match random.below(4) {
         0 => whole(random, range.high),
         1 => whole(random, range.low),
@@ -60,7 +70,11 @@ fn box_edge(random: &mut Random) -> Number {
     let (mut below, mut first) = (0, 32 * UNIT);
     while below + 1 < first {
         let middle = (below + first) / 2;
-        if box_size(middle, Fault::None) < d { below = middle } else { first = middle }
+        if box_size(middle, Fault::None) < d {
+            below = middle
+        } else {
+            first = middle
+        }
     }
     single(2 * first - random.within(0, 2), 2 * UNIT)
 }
@@ -83,14 +97,32 @@ pub fn wild(random: &mut Random, range: Range) -> Number {
     let high = (range.high as f32).to_bits();
     let ten_thousandths = 10_000 * random.pick(&[range.low, range.high, 0]);
     match random.below(8) {
-        0 => Number::Single(random.pick(&[0x7fc0_0000, 0x7f80_0001, 0xffc0_0000, 0xffff_ffff, 0x7f80_0000, 0xff80_0000])),
-        1 => Number::Single(random.pick(&[high, high + 1, high - 1, high | 0x8000_0000, (high + 1) | 0x8000_0000, high + 0x80_0000])),
-        2 => Number::Single(random.pick(&[0x8000_0001, 0x8000_0000, 1, 0x807f_ffff, 0x8080_0000, 0xb680_0000, 0x7f7f_ffff, 0xff7f_ffff])),
+        0 => {
+            Number::Single(random.pick(&[0x7fc0_0000, 0x7f80_0001, 0xffc0_0000, 0xffff_ffff, 0x7f80_0000, 0xff80_0000]))
+        }
+        1 => Number::Single(random.pick(&[
+            high,
+            high + 1,
+            high - 1,
+            high | 0x8000_0000,
+            (high + 1) | 0x8000_0000,
+            high + 0x80_0000,
+        ])),
+        2 => Number::Single(random.pick(&[
+            0x8000_0001,
+            0x8000_0000,
+            1,
+            0x807f_ffff,
+            0x8080_0000,
+            0xb680_0000,
+            0x7f7f_ffff,
+            0xff7f_ffff,
+        ])),
         3 => Number::Decimal(ten_thousandths + random.within(-1, 1)),
         4 => Number::Decimal(random.within(-999_999_999, 999_999_999)),
         5 => Number::Decimal(5_000 * random.within(-5, 5)),
         // One single away from a whole number: not whole before rounding, whole after.
         6 => Number::Single((random.within(2, 60) as f32).to_bits() + random.pick(&[0, 1])),
-        _ => Number::Single(random.next() as u32),
+        _ => Number::Single(random.word() as u32),
     }
 }

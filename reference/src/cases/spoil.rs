@@ -4,9 +4,50 @@ use crate::random::Random;
 
 /// Fields to put in another's place.
 const ODD_FIELDS: [&str; 44] = [
-    "", "0", "00", "01", "-0", "+0", "0.0", "-0.0000", "0.00000", "00.5", ".5", "5.", "1.5", "-1", "-1.5", "--1", "-", "1e3", "nan", "inf",
-    "0x10", "99999.9999", "100000", "-99999", "x", "x7fc00000", "x7FC00000", "x8000000", "x800000000", "X80000000", "x8000000g", "x80000000",
-    "src", "alpha", "Src", "source", "15", "16", "17", "255", "256", "1025", "9999", "10000",
+    "",
+    "0",
+    "00",
+    "01",
+    "-0",
+    "+0",
+    "0.0",
+    "-0.0000",
+    "0.00000",
+    "00.5",
+    ".5",
+    "5.",
+    "1.5",
+    "-1",
+    "-1.5",
+    "--1",
+    "-",
+    "1e3",
+    "nan",
+    "inf",
+    "0x10",
+    "99999.9999",
+    "100000",
+    "-99999",
+    "x",
+    "x7fc00000",
+    "x7FC00000",
+    "x8000000",
+    "x800000000",
+    "X80000000",
+    "x8000000g",
+    "x80000000",
+    "src",
+    "alpha",
+    "Src",
+    "source",
+    "15",
+    "16",
+    "17",
+    "255",
+    "256",
+    "1025",
+    "9999",
+    "10000",
 ];
 
 const PREFIXES: [&str; 7] = ["0", "+", "-", " ", "x", "1", "\0"];
@@ -36,8 +77,18 @@ pub fn field(field: &[u8], way: usize) -> Vec<u8> {
 }
 
 const LINES: [&str; 12] = [
-    "", "\t", "row", "row\t00000000", "row\t00000000\t00000000", "canvas\t1\t1", "end", "# remark", "merge\t0\t0\t1\t1\tsrc", "lumalpha\t0\t0\t1\t1\tsrc",
-    "lumalpha\t0\t0\t1\t1\t9999", "over\t0\t0\t1\t1\tsrc",
+    "",
+    "\t",
+    "row",
+    "row\t00000000",
+    "row\t00000000\t00000000",
+    "canvas\t1\t1",
+    "end",
+    "# remark",
+    "merge\t0\t0\t1\t1\tsrc",
+    "lumalpha\t0\t0\t1\t1\tsrc",
+    "lumalpha\t0\t0\t1\t1\t9999",
+    "over\t0\t0\t1\t1\tsrc",
 ];
 
 /// The number of ways to change a text at a line.
@@ -59,7 +110,11 @@ pub fn lines(lines: &mut Vec<Vec<u8>>, at: usize, way: usize) {
         8 => line.extend(b"\t0"),
         9 => line.extend(b"\tsrc"),
         10 => *line = line.to_ascii_uppercase(),
-        11 => line.iter_mut().for_each(|byte| if *byte == b'\t' { *byte = b' ' }),
+        11 => line.iter_mut().for_each(|byte| {
+            if *byte == b'\t' {
+                *byte = b' '
+            }
+        }),
         12 => drop(lines.remove(at)),
         13 => {
             let again = line.clone();

@@ -7,7 +7,8 @@ use crate::step::{Step, KINDS, MOST_STEPS};
 use crate::text::{LONGEST_TEXT, LONGEST_TEXT_SIDE};
 
 /// The example of document 01.
-pub const EXAMPLE: &str = "canvas\t2\t1\nflood\t0\t0\t1\t1\t255\t0\t0\t0.5\nover\t0\t0\t2\t1\t0\tsrc\nrow\t0000ffff\t00000080\n";
+pub const EXAMPLE: &str =
+    "canvas\t2\t1\nflood\t0\t0\t1\t1\t255\t0\t0\t0.5\nover\t0\t0\t2\t1\t0\tsrc\nrow\t0000ffff\t00000080\n";
 
 /// A sheet and a picture as text.
 pub fn written(width: usize, height: usize, steps: &[Step], source: &[u8], places: usize) -> Vec<u8> {
@@ -107,7 +108,8 @@ pub fn text(random: &mut Random) -> Vec<u8> {
 /// Texts that need little chance: the example with every field and line changed in every way, the ends of every limit,
 /// each kind with its fields changed in a third of the ways.
 pub fn listed(random: &mut Random) -> Vec<Vec<u8>> {
-    let mut all: Vec<Vec<u8>> = vec![EXAMPLE.into(), Vec::new(), b"\n".to_vec(), b"canvas".to_vec(), b"canvas\t0\t0\n".to_vec()];
+    let mut all: Vec<Vec<u8>> =
+        vec![EXAMPLE.into(), Vec::new(), b"\n".to_vec(), b"canvas".to_vec(), b"canvas\t0\t0\n".to_vec()];
     for length in [LONGEST_TEXT, LONGEST_TEXT + 1] {
         let mut text: Vec<u8> = EXAMPLE.into();
         text.resize(length, b'\n');

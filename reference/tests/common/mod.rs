@@ -49,7 +49,14 @@ pub fn last_layer(width: usize, height: usize, lines: &str, source: &[u8]) -> Ve
 }
 
 /// A redraw with right buffers on a workspace.
-pub fn redrawn(width: usize, height: usize, steps: &[Step], rect: Region, source: &[u8], workspace: &mut [u8]) -> (Answer, u64) {
+pub fn redrawn(
+    width: usize,
+    height: usize,
+    steps: &[Step],
+    rect: Region,
+    source: &[u8],
+    workspace: &mut [u8],
+) -> (Answer, u64) {
     let mut scratch = vec![7; 8 * width * height];
     redraw(Sheet { width, height, steps }, rect, source, workspace, &mut scratch, Fault::None)
 }
