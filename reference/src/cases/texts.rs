@@ -1,0 +1,143 @@
+//! Texts for `sheet`: valid ones, refused ones, malformed ones, and junk.
+
+use crate::cases::{damage_picture, picture, sheet, spoil, step};
+use crate::print;
+use crate::random::Random;
+use crate::step::{Step, KINDS, MOST_STEPS};
+use crate::text::{LONGEST_TEXT, LONGEST_TEXT_SIDE};
+
+/// The example of document 01.
+pub const EXAMPLE: &str =
+    "canvas\t2\t1\nflood\t0\t0\t1\t1\t255\t0\t0\t0.5\nover\t0\t0\t2\t1\t0\tsrc\nrow\t0000ffff\t00000080\n";
+
+/// A sheet and a picture as text.
+pub fn written(width: usize, height: usize, steps: &[Step], source: &[u8], places: usize) -> Vec<u8> {
+    let rows = if width == 0 { "row\n".repeat(height) } else { print::rows(width, source) };
+    format!("canvas\t{width}\t{height}\n{}{rows}", print::steps(steps, places)).into_bytes()
+}
+
+/// A well-formed text; a wild one may earn a refusal.
+fn well_formed(random: &mut Random, wild: bool) -> Vec<u8> {
+    let mut sides = [0, 0].map(|_| random.pick(&[1, 2, 3, 3, 4, 5, 7]));
+    if random.once_in(8) {
+        sides[random.below(2)] = LONGEST_TEXT_SIDE;
+    }
+    if wild && random.once_in(16) {
+        sides[random.below(2)] = 0;
+    }
+    let [width, height] = sides;
+    let count = match random.below(16) {
+        0 if wild => 0,
+        1 => MOST_STEPS,
+        _ => 1 + random.below(4),
+    };
+    let steps = sheet(random, count, width, height, wild);
+    let mut source = picture(random, width * height);
+    if wild && random.once_in(4) {
+        damage_picture(random, &mut source);
+    }
+    let places = random.below(5);
+    written(width, height, &steps, &source, places)
+}
+
+/// Changes a text once or twice.
+pub fn mutate(random: &mut Random, text: &mut Vec<u8>) {
+    spoil::anywhere(random, text);
+    if random.once_in(4) {
+        spoil::anywhere(random, text);
+    }
+}
+
+fn junk(random: &mut Random) -> Vec<u8> {
+    let length = random.pick(&[0, 1, 2, 16, 300, 3000]);
+    match random.below(3) {
+        0 => (0..length).map(|_| random.byte()).collect(),
+        1 => (0..length).map(|_| random.pick(b"\t\n0123456789abcdefx.- ")).collect(),
+        _ => {
+            // Too long, or just not.
+            let mut text = well_formed(random, false);
+            let more = random.pick(&[LONGEST_TEXT - 1, LONGEST_TEXT, LONGEST_TEXT + 1]);
+            let byte = random.pick(b"\n0\t ");
+            text.resize(more, byte);
+            text
+        }
+    }
+}
+
+/// A text of one step of a kind on one pixel, the step's line given.
+fn one_step(line: &[u8]) -> Vec<u8> {
+    [b"canvas\t1\t1\n", line, b"\nrow\t20406080\n"].concat()
+}
+
+/// A step of the kind as a line, without its line feed.
+fn line_of(random: &mut Random, word: &str) -> Vec<u8> {
+    loop {
+        let step = step(random, 0, 1, 1, false);
+        if step.kind.word() == word {
+            return print::step(&step, 0).trim_end_matches('\n').into();
+        }
+    }
+}
+
+/// Any text.
+pub fn text(random: &mut Random) -> Vec<u8> {
+    match random.below(32) {
+        0..=8 => well_formed(random, false),
+        9..=17 => well_formed(random, true),
+        18..=23 => {
+            let wild = random.once_in(2);
+            let mut text = well_formed(random, wild);
+            mutate(random, &mut text);
+            text
+        }
+        24..=29 => {
+            let word = random.pick(&KINDS).0;
+            let line = line_of(random, word);
+            let changed = spoil::every_field(&line);
+            one_step(&changed[random.below(changed.len())])
+        }
+        30 => {
+            let mut text = EXAMPLE.into();
+            mutate(random, &mut text);
+            text
+        }
+        _ => junk(random),
+    }
+}
+
+/// Texts that need little chance: the example with every field and line changed in every way, the ends of every limit,
+/// each kind with its fields changed in a third of the ways.
+pub fn listed(random: &mut Random) -> Vec<Vec<u8>> {
+    let mut all: Vec<Vec<u8>> =
+        vec![EXAMPLE.into(), Vec::new(), b"\n".to_vec(), b"canvas".to_vec(), b"canvas\t0\t0\n".to_vec()];
+    for length in [LONGEST_TEXT, LONGEST_TEXT + 1] {
+        let mut text: Vec<u8> = EXAMPLE.into();
+        text.resize(length, b'\n');
+        all.push(text);
+        all.push(vec![0; length]);
+    }
+    let example = spoil::split(EXAMPLE.as_bytes());
+    for at in 0..example.len() {
+        for way in 0..spoil::LINE_WAYS {
+            let mut lines = example.clone();
+            spoil::lines(&mut lines, at, way);
+            all.push(spoil::join(&lines));
+        }
+        for line in spoil::every_field(&example[at]) {
+            let mut lines = example.clone();
+            lines[at] = line;
+            all.push(spoil::join(&lines));
+        }
+    }
+    for (word, _) in KINDS {
+        // The numbers of a matrix are all alike: the first few will do.
+        let most = spoil::FIELD_WAYS * 9;
+        let line = line_of(random, word);
+        for changed in spoil::every_field(&line).iter().take(most) {
+            if random.once_in(3) {
+                all.push(one_step(changed));
+            }
+        }
+    }
+    all
+}

@@ -1,0 +1,176 @@
+//! "Refusal numbers, in order of checking": 1 to 14.
+
+use crate::fault::Fault;
+use crate::number::judge;
+use crate::step::{Checked, Input, Kind, Region, Step, LONGEST_SIDE, MOST_STEPS};
+use crate::window::{box_size, boxes};
+
+/// "An answer has a number and a place."
+#[derive(Clone, Copy, PartialEq, Eq, Debug)]
+pub struct Answer {
+    pub number: u8,
+    pub place: u64,
+}
+
+impl Answer {
+    pub const DONE: Answer = Answer { number: 0, place: 0 };
+
+    pub fn refused(number: u8, place: usize) -> Answer {
+        Answer { number, place: place as u64 }
+    }
+
+    /// Number and place in one word, as the library answers.
+    pub fn packed(self) -> u64 {
+        u64::from(self.number) + 256 * self.place
+    }
+}
+
+/// All that a call is given. `rect` is the rectangle that a redraw names.
+pub struct Call<'a> {
+    pub width: usize,
+    pub height: usize,
+    pub steps: &'a [Step],
+    pub rect: Option<Region>,
+    pub source: &'a [u8],
+    pub workspace: &'a [u8],
+    pub scratch: &'a [u8],
+}
+
+pub fn side_is_wrong(side: usize) -> bool {
+    side == 0 || side > LONGEST_SIDE
+}
+
+/// x + width ≤ W and y + height ≤ H, also for an empty one.
+fn leaves(region: Region, width: usize, height: usize, empty_anywhere: bool) -> bool {
+    let Region { x, y, width: across, height: down } = region;
+    if empty_anywhere && (across == 0 || down == 0) {
+        return false;
+    }
+    x as u128 + across as u128 > width as u128 || y as u128 + down as u128 > height as u128
+}
+
+/// Checks 1 to 6.
+fn buffers(call: &Call, fault: Fault) -> Result<(), Answer> {
+    let (width, height, steps) = (call.width, call.height, call.steps.len());
+    if side_is_wrong(width) || side_is_wrong(height) {
+        return Err(Answer::refused(1, 0));
+    }
+    let outside = call.rect.is_some_and(|rect| leaves(rect, width, height, fault.is(Fault::EmptyRectAnywhere)));
+    let scratch = 8 * width * height;
+    let scratch_is_wrong =
+        if fault.is(Fault::LongScratchAllowed) { call.scratch.len() < scratch } else { call.scratch.len() != scratch };
+    let mut checks = [
+        (2, call.source.len() != 4 * width * height),
+        (3, steps == 0 || steps > MOST_STEPS),
+        (4, call.workspace.len() != 4 * width * height * steps),
+        (5, scratch_is_wrong),
+        (6, outside),
+    ];
+    match fault {
+        Fault::ThreeBeforeTwo => checks.swap(0, 1),
+        Fault::FiveBeforeFour => checks.swap(2, 3),
+        Fault::SixBeforeFive => checks.swap(3, 4),
+        _ => {}
+    }
+    match checks.iter().find(|(_, wrong)| *wrong) {
+        Some((number, _)) => Err(Answer::refused(*number, 0)),
+        None => Ok(()),
+    }
+}
+
+/// The inputs that the kind uses; others are never looked at.
+fn used(step: &Step) -> &[Input] {
+    let (_, most) = step.kind.inputs();
+    if step.kind == Kind::Merge {
+        &step.inputs
+    } else {
+        &step.inputs[..most.min(step.inputs.len())]
+    }
+}
+
+/// "An input is not allowed, or merge has 0 or above 4": a layer needs "a smaller number than the step's own".
+fn inputs_are_wrong(n: usize, step: &Step, fault: Fault) -> bool {
+    let (least, most) = step.kind.inputs();
+    let below = n + fault.choose(Fault::OwnLayerAllowed, 0, 1);
+    let allowed = |input: &Input| !matches!(input, Input::Layer(layer) if *layer >= below);
+    let used = used(step);
+    used.len() < least || used.len() > most || !used.iter().all(allowed)
+}
+
+/// Each number in its listed order through 8 to 11.
+fn numbers(step: &Step, fault: Fault) -> Result<Vec<i64>, u8> {
+    let judged: Vec<Result<i64, u8>> =
+        step.numbers.iter().zip(step.kind.ranges()).map(|(number, range)| judge(*number, *range, fault)).collect();
+    let least = judged.iter().filter_map(|one| one.err()).min();
+    match least {
+        Some(number) if fault.is(Fault::NumbersCheckByCheck) => Err(number),
+        _ => judged.into_iter().collect(),
+    }
+}
+
+/// "255 times a blur's widest box is above 65,535."
+fn box_is_wrong(step: &Step, units: &[i64], fault: Fault) -> bool {
+    let size = |units: &i64| {
+        boxes(box_size(*units, fault), fault).iter().map(|(first, last)| last - first + 1).max().unwrap_or(0)
+    };
+    step.kind == Kind::Blur && units.iter().any(|units| 255 * size(units) > 65_535)
+}
+
+/// "Within a step 7, then each number .. through 8 to 11, then 12, then 13."
+fn step(n: usize, step: &Step, call: &Call, fault: Fault) -> Result<Checked, u8> {
+    let leaves = leaves(step.region, call.width, call.height, fault.is(Fault::EmptyRegionAnywhere));
+    if leaves && fault.is(Fault::ThirteenFirst) {
+        return Err(13);
+    }
+    if inputs_are_wrong(n, step, fault) {
+        return Err(7);
+    }
+    if leaves && fault.is(Fault::ThirteenBeforeNumbers) {
+        return Err(13);
+    }
+    let units = numbers(step, fault)?;
+    if box_is_wrong(step, &units, fault) {
+        return Err(12);
+    }
+    if leaves {
+        return Err(13);
+    }
+    Ok(Checked { kind: step.kind, region: step.region, inputs: used(step).to_vec(), colour: step.colour, units })
+}
+
+/// The first pixel with a colour above its alpha, counted from 0 in its buffer.
+fn bad_pixel(bytes: &[u8], fault: Fault) -> Option<usize> {
+    let checked = fault.choose(Fault::BlueUnchecked, 3, 2);
+    bytes.chunks_exact(4).position(|p| p[..checked].iter().any(|colour| *colour > p[3]))
+}
+
+/// Check 14: "source first, then in a redraw the workspace".
+fn pixels(call: &Call, fault: Fault) -> Result<(), Answer> {
+    let source = bad_pixel(call.source, fault);
+    let workspace =
+        call.rect.and_then(|_| bad_pixel(call.workspace, fault)).filter(|_| !fault.is(Fault::WorkspaceUnchecked));
+    let in_layer = |pixel: usize| fault.choose(Fault::PixelInItsLayer, pixel, pixel % (call.width * call.height));
+    let (first, second) = fault.choose(Fault::WorkspaceScannedFirst, (source, workspace), (workspace, source));
+    match first.or(second) {
+        Some(pixel) => Err(Answer::refused(14, in_layer(pixel))),
+        None => Ok(()),
+    }
+}
+
+/// The steps as they are to be worked, or the refusal.
+pub fn check(call: &Call, fault: Fault) -> Result<Vec<Checked>, Answer> {
+    buffers(call, fault)?;
+    if fault.is(Fault::PixelsBeforeSteps) {
+        pixels(call, fault)?;
+    }
+    let place = |n: usize| fault.choose(Fault::StepsFromOne, n, n + 1);
+    if fault.is(Fault::InputsOfAllStepsFirst) {
+        if let Some(n) = (0..call.steps.len()).find(|n| inputs_are_wrong(*n, &call.steps[*n], fault)) {
+            return Err(Answer::refused(7, n));
+        }
+    }
+    let checked = |n: usize| step(n, &call.steps[n], call, fault).map_err(|number| Answer::refused(number, place(n)));
+    let steps = (0..call.steps.len()).map(checked).collect::<Result<Vec<_>, _>>()?;
+    pixels(call, fault)?;
+    Ok(steps)
+}

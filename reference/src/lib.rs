@@ -1,0 +1,36 @@
+//! The second program: the rules of document 01 once more, written from the document alone, straight and naive.
+//!
+//! It shares nothing with the proved renderer, so that a slip in the definitions, in the compiler or at the boundary to
+//! other languages shows as a difference. Quotations in comments are document 01's words.
+//!
+//! - `wide`, `number`: exact values, refusals 8 to 11, units
+//! - `pixel`, `window`, `filter`: the arithmetic of one pixel, neighbourhoods, the work of each kind
+//! - `rect`, `damage`: rectangles of a redraw and their count
+//! - `step`, `check`, `render`: sheets, the refusal table, the entry points
+//! - `text`, `print`: the text form and what `sheet` prints
+//! - `fault`: wrong variants of the rules
+//! - `random`, `cases`: seeded sheets, pictures, calls and texts
+//! - `compare`, `budget`, `library`, `program`, `sums`: the comparison, its runs, what it is run against
+
+pub mod budget;
+pub mod cases;
+pub mod check;
+pub mod compare;
+pub mod damage;
+pub mod fault;
+pub mod filter;
+#[cfg(feature = "library")]
+pub mod library;
+pub mod number;
+pub mod picture;
+pub mod pixel;
+pub mod print;
+pub mod program;
+pub mod random;
+pub mod rect;
+pub mod render;
+pub mod step;
+pub mod sums;
+pub mod text;
+pub mod wide;
+pub mod window;

@@ -1,0 +1,72 @@
+//! What is printed: the answer of `sheet`, and steps as lines of text.
+
+use crate::check::Answer;
+use crate::fault::Fault;
+use crate::number::Number;
+use crate::render::{render, Sheet};
+use crate::step::{Input, Kind, Step};
+use crate::text::{read, Reading};
+
+/// "It prints `ok` and the last layer as `row` lines, or one line: `refused`, number, place, parted by tabs."
+pub fn sheet(text: &[u8], fault: Fault) -> Vec<u8> {
+    match drawn(text, fault) {
+        Ok((width, layer)) => format!("ok\n{}", rows(width, &layer)).into_bytes(),
+        Err(answer) => format!("refused\t{}\t{}\n", answer.number, answer.place).into_bytes(),
+    }
+}
+
+/// The canvas's width and the last layer of a text.
+fn drawn(text: &[u8], fault: Fault) -> Result<(usize, Vec<u8>), Answer> {
+    let Reading { width, height, steps, source } = read(text, fault)?;
+    let size = 4 * width * height;
+    let mut workspace = vec![0; size * steps.len()];
+    let mut scratch = vec![0; 2 * size];
+    let sheet = Sheet { width, height, steps: &steps };
+    match render(sheet, &source, &mut workspace, &mut scratch, fault) {
+        Answer::DONE => Ok((width, workspace[size * (steps.len() - 1)..].to_vec())),
+        answer => Err(answer),
+    }
+}
+
+/// A picture as `row` lines, "row fields being pixels left to right".
+pub fn rows(width: usize, picture: &[u8]) -> String {
+    let pixel = |p: &[u8]| format!("\t{:02x}{:02x}{:02x}{:02x}", p[0], p[1], p[2], p[3]);
+    let row = |row: &[u8]| format!("row{}\n", row.chunks_exact(4).map(pixel).collect::<String>());
+    picture.chunks_exact(4 * width).map(row).collect()
+}
+
+/// A number as a field, a decimal with at least `places` digits after the point, 0 to 4.
+pub fn number(number: Number, places: usize) -> String {
+    match number {
+        Number::Single(bits) => format!("x{bits:08x}"),
+        Number::Decimal(n) => {
+            let minus = if n < 0 { "-" } else { "" };
+            let (ones, parts) = (n.unsigned_abs() / 10_000, format!("{:04}", n.unsigned_abs() % 10_000));
+            let kept = parts.trim_end_matches('0').len().max(places);
+            let point = if kept > 0 { "." } else { "" };
+            format!("{minus}{ones}{point}{}", &parts[..kept])
+        }
+    }
+}
+
+/// A step as a line, its line feed included.
+pub fn step(step: &Step, places: usize) -> String {
+    let region = step.region;
+    let mut fields = vec![step.kind.word().to_string()];
+    fields.extend([region.x, region.y, region.width, region.height].map(|n| n.to_string()));
+    fields.extend(step.inputs.iter().map(|input| match input {
+        Input::Source => "src".to_string(),
+        Input::Alpha => "alpha".to_string(),
+        Input::Layer(n) => n.to_string(),
+    }));
+    if step.kind == Kind::Flood {
+        fields.extend(step.colour.map(|byte| byte.to_string()));
+    }
+    fields.extend(step.numbers.iter().map(|n| number(*n, places)));
+    fields.join("\t") + "\n"
+}
+
+/// Steps as lines.
+pub fn steps(all: &[Step], places: usize) -> String {
+    all.iter().map(|one| step(one, places)).collect()
+}

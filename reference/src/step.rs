@@ -1,0 +1,119 @@
+//! Sheets: kinds of steps, their inputs, numbers and regions.
+
+use crate::number::{Number, Range};
+use crate::pixel::Operator;
+
+/// "A sheet has 1 to 16 steps."
+pub const MOST_STEPS: usize = 16;
+
+/// "W and H are 1 to 1,024."
+pub const LONGEST_SIDE: usize = 1024;
+
+/// "Merge: 1 to 4 inputs."
+pub const MOST_INPUTS: usize = 4;
+
+/// "An input is the source; the source's alpha (R, G, B zero); or a layer."
+#[derive(Clone, Copy, PartialEq, Eq, Debug)]
+pub enum Input {
+    Source,
+    Alpha,
+    Layer(usize),
+}
+
+#[derive(Clone, Copy, PartialEq, Eq, Debug)]
+pub enum Kind {
+    Flood,
+    Offset,
+    Blur,
+    Erode,
+    Dilate,
+    Matrix,
+    Saturate,
+    Lumalpha,
+    Composite(Operator),
+    Arithmetic,
+    Merge,
+}
+
+/// The kinds and their words in text.
+pub const KINDS: [(&str, Kind); 15] = [
+    ("flood", Kind::Flood),
+    ("offset", Kind::Offset),
+    ("blur", Kind::Blur),
+    ("erode", Kind::Erode),
+    ("dilate", Kind::Dilate),
+    ("matrix", Kind::Matrix),
+    ("saturate", Kind::Saturate),
+    ("lumalpha", Kind::Lumalpha),
+    ("over", Kind::Composite(Operator::Over)),
+    ("in", Kind::Composite(Operator::In)),
+    ("out", Kind::Composite(Operator::Out)),
+    ("atop", Kind::Composite(Operator::Atop)),
+    ("xor", Kind::Composite(Operator::Xor)),
+    ("arith", Kind::Arithmetic),
+    ("merge", Kind::Merge),
+];
+
+/// "A region x, y, width, height in whole pixels." Also the rectangle that the caller of a redraw names.
+#[derive(Clone, Copy, PartialEq, Eq, Debug)]
+pub struct Region {
+    pub x: usize,
+    pub y: usize,
+    pub width: usize,
+    pub height: usize,
+}
+
+/// A step as it is given, before any check. `colour` is a flood's R, G, B.
+#[derive(Clone, PartialEq, Eq, Debug)]
+pub struct Step {
+    pub kind: Kind,
+    pub region: Region,
+    pub inputs: Vec<Input>,
+    pub colour: [u8; 3],
+    pub numbers: Vec<Number>,
+}
+
+const ZERO_TO_ONE: Range = Range { low: 0, high: 1, whole: false };
+const OFFSET: Range = Range { low: -1024, high: 1024, whole: true };
+const DEVIATION: Range = Range { low: 0, high: 32, whole: false };
+const RADIUS: Range = Range { low: 0, high: 64, whole: true };
+const COEFFICIENT: Range = Range { low: -256, high: 256, whole: false };
+
+impl Kind {
+    /// "Numbers, in order", and what is allowed for each.
+    pub fn ranges(self) -> &'static [Range] {
+        match self {
+            Kind::Flood | Kind::Saturate => &[ZERO_TO_ONE],
+            Kind::Offset => &[OFFSET; 2],
+            Kind::Blur => &[DEVIATION; 2],
+            Kind::Erode | Kind::Dilate => &[RADIUS; 2],
+            Kind::Matrix => &[COEFFICIENT; 20],
+            Kind::Arithmetic => &[COEFFICIENT; 4],
+            Kind::Lumalpha | Kind::Composite(_) | Kind::Merge => &[],
+        }
+    }
+
+    /// How many inputs a step of the kind has, at least and at most.
+    pub fn inputs(self) -> (usize, usize) {
+        match self {
+            Kind::Flood => (0, 0),
+            Kind::Composite(_) | Kind::Arithmetic => (2, 2),
+            Kind::Merge => (1, MOST_INPUTS),
+            _ => (1, 1),
+        }
+    }
+
+    pub fn word(self) -> &'static str {
+        KINDS.iter().find(|(_, kind)| *kind == self).expect("every kind has a word").0
+    }
+}
+
+/// A step that has passed its checks: `units` are its numbers, rounded.
+#[derive(Clone, Debug)]
+pub struct Checked {
+    pub kind: Kind,
+    pub region: Region,
+    pub inputs: Vec<Input>,
+    pub colour: [u8; 3],
+    pub units: Vec<i64>,
+}

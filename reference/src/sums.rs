@@ -1,0 +1,99 @@
+//! Checksums of large renders, for programs that cannot link this one.
+//!
+//! The source picture: a state of 32 bits begins at the seed; before each byte it becomes
+//! (state · 1,664,525 + 1,013,904,223) mod 2^32, and the byte is the state ÷ 2^24. Four bytes in a row are a pixel's
+//! R, G, B and A; then each colour is lowered to the alpha where it exceeds it. Pixels come in row order.
+//!
+//! The edit: the 16 × 16 pixels from (500, 300) become ffffffff, and that rectangle is redrawn.
+//!
+//! Sums of a layer's bytes in order: `fnv` is FNV-1a with 64 bits; `poly` begins at 0 and becomes
+//! (poly · 257 + byte + 1) mod 4,294,967,291 with each byte.
+
+use crate::fault::Fault;
+use crate::render::{redraw, render, Sheet};
+use crate::step::Region;
+use crate::text::read_steps;
+
+pub const SEED: u32 = 2026;
+
+/// A drop shadow: the alpha blurred and moved, tinted, under the picture.
+pub const SHADOW: &str = "blur\t0\t0\t1024\t1024\talpha\t6\t4.5
+offset\t0\t0\t1024\t1024\t0\t12\t8
+flood\t0\t0\t1024\t1024\t16\t16\t64\t0.6
+in\t0\t0\t1024\t1024\t2\t1
+merge\t0\t0\t1024\t1024\t3\tsrc
+";
+
+/// A glow: the alpha widened and blurred, tinted and made stronger, under the picture.
+pub const GLOW: &str = "dilate\t0\t0\t1024\t1024\talpha\t3\t2
+blur\t8\t8\t1008\t1008\t0\t9.3\t9.3
+flood\t0\t0\t1024\t1024\t255\t220\t64\t0.9
+in\t0\t0\t1024\t1024\t2\t1
+arith\t0\t0\t1024\t1024\t3\tsrc\t0\t0.75\t0.25\t0.01
+over\t0\t0\t1024\t1024\tsrc\t4
+";
+
+/// The sheets' canvas.
+pub const SIDE: usize = 1024;
+
+/// The rectangle of the edit.
+pub const EDIT: Region = Region { x: 500, y: 300, width: 16, height: 16 };
+
+pub fn source(seed: u32, pixels: usize) -> Vec<u8> {
+    let mut state = seed;
+    let mut byte = || {
+        state = state.wrapping_mul(1_664_525).wrapping_add(1_013_904_223);
+        (state >> 24) as u8
+    };
+    let mut bytes = Vec::with_capacity(4 * pixels);
+    for _ in 0..pixels {
+        let [r, g, b, a] = [byte(), byte(), byte(), byte()];
+        bytes.extend([r.min(a), g.min(a), b.min(a), a]);
+    }
+    bytes
+}
+
+/// The source after the edit.
+pub fn edited(source: &[u8]) -> Vec<u8> {
+    let mut edited = source.to_vec();
+    for y in EDIT.y..EDIT.y + EDIT.height {
+        let row = 4 * (y * SIDE + EDIT.x);
+        edited[row..row + 4 * EDIT.width].fill(255);
+    }
+    edited
+}
+
+pub fn fnv(bytes: &[u8]) -> u64 {
+    bytes.iter().fold(0xcbf2_9ce4_8422_2325, |sum: u64, byte| (sum ^ u64::from(*byte)).wrapping_mul(0x100_0000_01b3))
+}
+
+pub fn poly(bytes: &[u8]) -> u64 {
+    bytes.iter().fold(0, |sum, byte| (sum * 257 + u64::from(*byte) + 1) % 4_294_967_291)
+}
+
+fn line(name: &str, bytes: &[u8]) -> String {
+    format!("{name}\tfnv {:016x}\tpoly {}\n", fnv(bytes), poly(bytes))
+}
+
+/// The sums of one sheet: every layer after the render, the count and the last layer after the edit's redraw.
+pub fn sheet(name: &str, lines: &str) -> String {
+    let steps = read_steps(lines.as_bytes(), Fault::None).expect("well formed");
+    let sheet = Sheet { width: SIDE, height: SIDE, steps: &steps };
+    let size = 4 * SIDE * SIDE;
+    let source = source(SEED, SIDE * SIDE);
+    let (mut workspace, mut scratch) = (vec![0; size * steps.len()], vec![0; 2 * size]);
+    let answer = render(sheet, &source, &mut workspace, &mut scratch, Fault::None);
+    let mut said = format!("{name}\tanswer {}\n", answer.packed());
+    for (n, layer) in workspace.chunks_exact(size).enumerate() {
+        said += &line(&format!("{name} layer {n}"), layer);
+    }
+    let (answer, count) = redraw(sheet, EDIT, &edited(&source), &mut workspace, &mut scratch, Fault::None);
+    said += &format!("{name} redraw\tanswer {}\tcount {count}\n", answer.packed());
+    said + &line(&format!("{name} redraw layer {}", steps.len() - 1), &workspace[size * (steps.len() - 1)..])
+}
+
+/// What `reference sums` prints.
+pub fn all() -> String {
+    let source = source(SEED, SIDE * SIDE);
+    line("source", &source) + &line("source edited", &edited(&source)) + &sheet("shadow", SHADOW) + &sheet("glow", GLOW)
+}
