@@ -1,3 +1,0 @@
--- What the entry points answer and leave.
-pub mod Entry
-pub mod Stood

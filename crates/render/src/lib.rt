@@ -1,2 +1,0 @@
-// The entry points: render, redraw, layer. None asks anything beforehand.
-fn nothing() {}
