@@ -1,10 +1,4 @@
 // Checks 7 to 13: the steps, in the order of checking.
-use filter::Answer;
-use filter::Input;
-use filter::Kind;
-use filter::Region;
-use filter::Sheet;
-use filter::Step;
 use super::answers::first;
 use super::basics::both;
 use super::basics::most;
@@ -16,6 +10,12 @@ use super::steps::number_at;
 use super::steps::number_count;
 use super::steps::range_at;
 use super::steps::size_at;
+use filter::Answer;
+use filter::Input;
+use filter::Kind;
+use filter::Region;
+use filter::Sheet;
+use filter::Step;
 use number::Fault;
 use number::Judged;
 use number::judge;

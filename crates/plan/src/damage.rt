@@ -1,13 +1,5 @@
 // "Which part is redrawn": the rectangle of each step, and the count of the pixels that are worked.
 use super::Damages;
-use filter::Input;
-use filter::Inputs;
-use filter::Primitive;
-use filter::Rect;
-use filter::Region;
-use filter::Sheet;
-use filter::Shift;
-use filter::Step;
 use super::basics::less;
 use super::rectangle::area;
 use super::rectangle::bounds;
@@ -18,6 +10,14 @@ use super::rectangle::none;
 use super::rectangle::shift;
 use super::rectangle::widen;
 use super::resolve::resolve;
+use filter::Input;
+use filter::Inputs;
+use filter::Primitive;
+use filter::Rect;
+use filter::Region;
+use filter::Sheet;
+use filter::Shift;
+use filter::Step;
 ghost use mathlib.Core.Path.{_≡_};
 ghost use mathlib.Core.Bool.{cond};
 ghost use mathlib.Core.List.{[], _∷_, map};

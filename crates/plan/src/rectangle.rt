@@ -1,10 +1,10 @@
 // Rectangles by their bounds.
-use filter::Rect;
-use filter::Region;
-use filter::Shift;
 use super::basics::least;
 use super::basics::less;
 use super::basics::most;
+use filter::Rect;
+use filter::Region;
+use filter::Shift;
 ghost use mathlib.Core.Path.{_≡_};
 ghost use Prim.Native.Nat.{_+_, _-_, _≤_};
 ghost use Rattle.filter.specs.Rect.{boundsOf, canvasOf, empty, filled, area as areaOf, meet as met, hull as hulled, join as joined};

@@ -1,8 +1,8 @@
 // Checks 1 to 6: the canvas, the lengths of the buffers, the number of steps, and the rectangle of a redraw.
+use super::basics::both;
 use filter::Answer;
 use filter::Region;
 use filter::Sheet;
-use super::basics::both;
 ghost use mathlib.Core.Path.{_≡_};
 ghost use Prim.Native.Nat.{_+_, _≤_};
 ghost use lib.Dec.{leb};

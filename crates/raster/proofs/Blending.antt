@@ -1,5 +1,6 @@
 -- The byte rows of a composite against `composited`: one law over the five operators. Assumes nothing.
 use mathlib.Core.Path.{_≡_, refl, sym, ap, ap₂, subst, _∙_}
+use mathlib.Core.Bool.{true}
 use mathlib.Core.List.{List}
 use mathlib.Core.Logic.{⊎-elim}
 use Prim.Native.Nat.{ℕ, _+_, _-_, _*_, _/_, _≤_, _<_}
@@ -13,35 +14,13 @@ use Rattle.pixel.specs.declared.Operator.{Operator}
 use Rattle.pixel.specs.declared.Operator.the-variants.{Over, In, Out, Atop, Xor}
 use Rattle.pixel.specs.Bytes.{pixelAt, Painted, ValidRow}
 use Rattle.pixel.specs.Composite.{factorA, factorB, composed, composited}
-use Rattle.raster.specs.Work.{grey, alphaAt, weighted, blended, row, Fitting}
+use Rattle.raster.specs.Factors.{variesA, variesB, Factors}
+use Rattle.raster.specs.Work.{alphaAt, weighted, blended, row, Fitting}
+use Rattle.raster.proofs.Channels.{by-channel}
 use Rattle.raster.proofs.Painting.{pixel-by}
 
 pub byte-product : (u v : ℕ) → u < 256 → v < 256 → u * v ≤ 65025
 byte-product u v h k = mul-le-mul {n₁ = u} {m₁ = v} {n₂ = 255} {m₂ = 255} (omega arith) (omega arith)
-
--- what holds of the four bytes of the pixel of i holds of i
-pub by-channel : (P : ℕ → Type 0) (i : ℕ) → P (4 * (i / 4)) → P (4 * (i / 4) + 1) → P (4 * (i / 4) + 2) → P (4 * (i / 4) + 3) → P i
-by-channel P i p0 p1 p2 p3 = ⊎-elim
-    (λ h. ⊎-elim
-    (λ k. let e : 4 * (i / 4) ≡ i = omega arith in subst P e p0)
-    (λ k. let e : 4 * (i / 4) + 1 ≡ i = omega arith in subst P e p1)
-    (lt-or-le i (4 * (i / 4) + 1)))
-    (λ h. ⊎-elim
-    (λ k. let e : 4 * (i / 4) + 2 ≡ i = omega arith in subst P e p2)
-    (λ k. let e : 4 * (i / 4) + 3 ≡ i = omega arith in subst P e p3)
-    (lt-or-le i (4 * (i / 4) + 3)))
-    (lt-or-le i (4 * (i / 4) + 2))
-
--- a row of factors read back
-pub factor-at : (φ : ℕ → ℕ) (n : ℕ) (d d′ : List ℕ) → Painted (λ x. grey (φ x)) 0 0 n d d′ → (i : ℕ) → i < 4 * n → getD d′ i 0 ≡ φ (i / 4)
-factor-at φ n d d′ P i h =
-    let z : 0 + 4 * (i / 4) ≡ 4 * (i / 4) = omega arith in
-    let e : pixelAt d′ (4 * (i / 4)) ≡ grey (φ (i / 4)) = rw z at (P .inside (i / 4) (omega arith) (omega arith)) in
-    by-channel (λ j. getD d′ j 0 ≡ φ (i / 4)) i
-    (ap (λ (p : Pixel). p .r) e)
-    (ap (λ (p : Pixel). p .g) e)
-    (ap (λ (p : Pixel). p .b) e)
-    (ap (λ (p : Pixel). p .a) e)
 
 pub valid-byte : (a : List ℕ) (n : ℕ) → ValidRow a n → (i : ℕ) → i < 4 * n → getD a i 0 ≤ alphaAt a i
 valid-byte a n h i l =
@@ -61,37 +40,52 @@ composed-fits Xor u v x y hu hv hx hy =
     let k : u * (255 - y) ≤ 255 * (255 - y) = mul-le-mul-right (255 - y) (omega arith) in
     omega arith
 
--- the rows F and G hold the factors of an operator for each byte
-pub record Factors (o : Operator) (a b : List ℕ) (F G : ℕ → ℕ) (n : ℕ) : Type 0 where
+-- factors are bytes
+factorA-small : (o : Operator) (x y : ℕ) → y < 256 → factorA o x y < 256
+factorA-small Over x y h = omega arith
+factorA-small In x y h = h
+factorA-small Out x y h = omega arith
+factorA-small Atop x y h = h
+factorA-small Xor x y h = omega arith
+
+factorB-small : (o : Operator) (x y : ℕ) → factorB o x y < 256
+factorB-small Over x y = omega arith
+factorB-small In x y = omega arith
+factorB-small Out x y = omega arith
+factorB-small Atop x y = omega arith
+factorB-small Xor x y = omega arith
+
+-- F and G are the factors of an operator for each byte
+pub record Weights (o : Operator) (a b : List ℕ) (F G : ℕ → ℕ) (n : ℕ) : Type 0 where
   pub of-a : (i : ℕ) → i < 4 * n → F i ≡ factorA o (alphaAt a i) (alphaAt b i)
   pub of-b : (i : ℕ) → i < 4 * n → G i ≡ factorB o (alphaAt a i) (alphaAt b i)
 
--- the rows that `alphas` and `opposites` leave
-abbrev pub Alphas : List ℕ → ℕ → List ℕ → List ℕ → Type 0
-Alphas a n = Painted (λ x. grey (getD a (4 * x + 3) 0)) 0 0 n
+-- the rows of factors as weights, and the constants where a factor does not vary
+module _ (o : Operator) (a b f g : List ℕ) (n : ℕ) (H : Factors o a b f g n) where
+  from-f : variesA o ≡ true → (i : ℕ) → i < 4 * n → row f i ≡ factorA o (alphaAt a i) (alphaAt b i)
+  from-f v i h =
+      let e : i / 2 / 2 ≡ i / 4 = omega arith in
+      rw e at (H .of-a v (i / 2) (omega arith))
 
-abbrev pub Opposites : List ℕ → ℕ → List ℕ → List ℕ → Type 0
-Opposites a n = Painted (λ x. grey (255 - getD a (4 * x + 3) 0)) 0 0 n
+  from-g : variesB o ≡ true → (i : ℕ) → i < 4 * n → row g i ≡ factorB o (alphaAt a i) (alphaAt b i)
+  from-g v i h =
+      let e : i / 2 / 2 ≡ i / 4 = omega arith in
+      rw e at (H .of-b v (i / 2) (omega arith))
 
-module _ (a b : List ℕ) (n : ℕ) (f₀ f g₀ g : List ℕ) where
-  pub over-factors : Opposites a n g₀ g → Factors Over a b (λ _. 255) (row g) n
-  over-factors G = record { of-a = λ i h. refl; of-b = factor-at _ n g₀ g G }
+  pub weights : variesA o ≡ true → variesB o ≡ true → Weights o a b (row f) (row g) n
+  weights ha hb = record { of-a = from-f ha; of-b = from-g hb }
 
-  pub in-factors : Alphas b n f₀ f → Factors In a b (row f) (λ _. 0) n
-  in-factors F = record { of-a = factor-at _ n f₀ f F; of-b = λ i h. refl }
+  pub weights-a : variesA o ≡ true → ((x y : ℕ) → factorB o x y ≡ 0) → Weights o a b (row f) (λ _. 0) n
+  weights-a ha z = record { of-a = from-f ha; of-b = λ i h. sym (z _ _) }
 
-  pub out-factors : Opposites b n f₀ f → Factors Out a b (row f) (λ _. 0) n
-  out-factors F = record { of-a = factor-at _ n f₀ f F; of-b = λ i h. refl }
+  pub weights-b : ((x y : ℕ) → factorA o x y ≡ 255) → variesB o ≡ true → Weights o a b (λ _. 255) (row g) n
+  weights-b z hb = record { of-a = λ i h. sym (z _ _); of-b = from-g hb }
 
-  pub atop-factors : Alphas b n f₀ f → Opposites a n g₀ g → Factors Atop a b (row f) (row g) n
-  atop-factors F G = record { of-a = factor-at _ n f₀ f F; of-b = factor-at _ n g₀ g G }
-
-  pub xor-factors : Opposites b n f₀ f → Opposites a n g₀ g → Factors Xor a b (row f) (row g) n
-  xor-factors F G = record { of-a = factor-at _ n f₀ f F; of-b = factor-at _ n g₀ g G }
-
-module _ (o : Operator) (a b : List ℕ) (F G : ℕ → ℕ) (n m : ℕ) (long : m ≡ 4 * n) (H : Factors o a b F G n) where
-  pub fitting : ((i : ℕ) → getD a i 0 < 256) → ((i : ℕ) → getD b i 0 < 256) → ValidRow a n → ValidRow b n → Fitting a F b G m
+module _ (o : Operator) (a b : List ℕ) (F G : ℕ → ℕ) (n : ℕ) (H : Weights o a b F G n) where
+  pub fitting : ((i : ℕ) → getD a i 0 < 256) → ((i : ℕ) → getD b i 0 < 256) → ValidRow a n → ValidRow b n → Fitting a F b G (4 * n)
   fitting ha hb va vb = record {
+    small-f = λ i h. rw (H .of-a i h) (factorA-small o _ _ (hb _));
+    small-g = λ i h. rw (H .of-b i h) (factorB-small o _ _);
     fits = λ i h.
         let l : i < 4 * n = omega arith in
         rw (H .of-a i l, H .of-b i l)
@@ -99,7 +93,7 @@ module _ (o : Operator) (a b : List ℕ) (F G : ℕ → ℕ) (n m : ℕ) (long :
   }
 
   -- byte c of pixel x of the blended rows
-  channel : (d d′ : List ℕ) → Filled (blended a F b G) 0 m d d′ → (x c : ℕ) → x < n → c < 4
+  channel : (d d′ : List ℕ) → Filled (blended a F b G) 0 (4 * n) d d′ → (x c : ℕ) → x < n → c < 4
       → getD d′ (4 * x + c) 0 ≡ composed o (getD a (4 * x + c) 0) (getD b (4 * x + c) 0) (getD a (4 * x + 3) 0) (getD b (4 * x + 3) 0)
   channel d d′ B x c lx lc =
       let i : ℕ = 4 * x + c in
@@ -109,7 +103,7 @@ module _ (o : Operator) (a b : List ℕ) (F G : ℕ → ℕ) (n m : ℕ) (long :
       ∙ ap₂ (λ (s t : ℕ). (weighted (getD a i 0) s (getD b i 0) t + 127) / 255) (H .of-a i l) (H .of-b i l)
       ∙ ap (λ (k : ℕ). composed o (getD a i 0) (getD b i 0) (getD a k 0) (getD b k 0)) q
 
-  pub blended-painted : (d d′ : List ℕ) → Filled (blended a F b G) 0 m d d′ → Painted (λ x. composited o (pixelAt a (4 * x)) (pixelAt b (4 * x))) 0 0 n d d′
+  pub blended-painted : (d d′ : List ℕ) → Filled (blended a F b G) 0 (4 * n) d d′ → Painted (λ x. composited o (pixelAt a (4 * x)) (pixelAt b (4 * x))) 0 0 n d d′
   unfolding composited
   blended-painted d d′ B = record {
     inside = λ x l h.
@@ -125,11 +119,18 @@ module _ (o : Operator) (a b : List ℕ) (F G : ℕ → ℕ) (n m : ℕ) (long :
     long = B .long;
   }
 
--- where B has no part
-pub scaled-blended : (a b : List ℕ) (F : ℕ → ℕ) (m : ℕ) (d d′ : List ℕ) → Filled (λ i. (getD a i 0 * F i + 127) / 255) 0 m d d′ → Filled (blended a F b (λ _. 0)) 0 m d d′
+-- where FB is 0, any b will do
+pub scaled-blended : (a b : List ℕ) (F : ℕ → ℕ) (m : ℕ) (d d′ : List ℕ) → Filled (blended a F a (λ _. 0)) 0 m d d′ → Filled (blended a F b (λ _. 0)) 0 m d d′
 scaled-blended a b F m d d′ B = record {
-  inside = λ i l h. B .inside i l h ∙ ap (λ (t : ℕ). (t + 127) / 255) (omega (arith, mul-zero (getD b i 0)));
+  inside = λ i l h. B .inside i l h ∙ ap (λ (t : ℕ). (getD a i 0 * F i + t + 127) / 255) (mul-zero (getD a i 0) ∙ sym (mul-zero (getD b i 0)));
   before = B .before;
   after = B .after;
   long = B .long;
+}
+
+pub fitting-alone : (a b : List ℕ) (F : ℕ → ℕ) (m : ℕ) → Fitting a F b (λ _. 0) m → Fitting a F a (λ _. 0) m
+fitting-alone a b F m H = record {
+  small-f = H .small-f;
+  small-g = H .small-g;
+  fits = λ i h. omega (arith, H .fits i h, mul-zero (getD a i 0), mul-zero (getD b i 0));
 }

@@ -1,14 +1,14 @@
 -- Packed pixels taken apart again. Assumes nothing.
 use mathlib.Core.Path.{_≡_, refl, ap, _∙_}
 use mathlib.Core.List.{List}
-use Prim.Native.Nat.{ℕ, _+_, _*_, _/_, _%_, _<_}
+use Prim.Native.Nat.{ℕ, _+_, _-_, _*_, _/_, _%_, _<_}
 use native.Mathlib.Omega.{arith}
 use Rattle.pixel.specs.declared.Pixel.{Pixel}
 use Rattle.pixel.specs.Alpha.{pixel, Bytes}
 use Rattle.pixel.specs.Bytes.{Painted}
 use Rattle.raster.specs.Word.{packed, unpacked, Packed}
-use Rattle.raster.specs.Row.{alphaOf}
-use Rattle.raster.specs.Work.{grey}
+use Rattle.raster.specs.Row.{alphaOnly}
+use Rattle.raster.specs.Work.{twice}
 use Rattle.raster.proofs.Painting.{painted-more}
 
 same : (p q : Pixel) → p .r ≡ q .r → p .g ≡ q .g → p .b ≡ q .b → p .a ≡ q .a → p ≡ q
@@ -27,18 +27,18 @@ packed-by p r g b a hr hg hb ha =
 pub packed-alpha : (p : Pixel) (v : ℕ) → Packed p v → v / 16777216 ≡ p .a
 packed-alpha p v h = ap (λ (q : Pixel). q .a) (h .holds)
 
--- a byte in all four channels
-pub unpacked-grey : (v : ℕ) → v < 256 → unpacked (v * 16843009) ≡ grey v
-unpacked-grey v h =
-    let e : v * 16843009 ≡ packed (grey v) = omega arith in
-    rw e (unpacked-packed (grey v) (record { r = h; g = h; b = h; a = h }))
+-- a factor in both halves of a word
+pub unpacked-twice : (v : ℕ) → v < 256 → unpacked (v * 65537) ≡ twice v
+unpacked-twice v h =
+    let e : v * 65537 ≡ packed (twice v) = omega arith in
+    rw e (unpacked-packed (twice v) (record { r = h; g = omega arith; b = h; a = omega arith }))
 
 -- a word's alpha, its colours dropped
-pub unpacked-alpha : (p : Pixel) (v : ℕ) → v < 4294967296 → Packed p v → unpacked (v / 16777216 * 16777216) ≡ alphaOf p
+pub unpacked-alpha : (p : Pixel) (v : ℕ) → v < 4294967296 → Packed p v → unpacked (v / 16777216 * 16777216) ≡ alphaOnly p
 unpacked-alpha p v l h =
-    let e : v / 16777216 * 16777216 ≡ packed (alphaOf p) = omega (arith, packed-alpha p v h) in
-    rw e (unpacked-packed (alphaOf p) (record { r = omega arith; g = omega arith; b = omega arith; a = omega (arith, packed-alpha p v h) }))
+    let e : v / 16777216 * 16777216 ≡ packed (alphaOnly p) = omega (arith, packed-alpha p v h) in
+    rw e (unpacked-packed (alphaOnly p) (record { r = omega arith; g = omega arith; b = omega arith; a = omega (arith, packed-alpha p v h) }))
 
--- one factor more, in all four bytes of a pixel
-pub factor-more : (φ : ℕ → ℕ) (v i x : ℕ) (d₀ d d′ : List ℕ) → i ≡ 4 * x → v ≡ φ x → v < 256 → Painted (λ t. grey (φ t)) 0 0 x d₀ d → Painted (λ _. unpacked (v * 16843009)) i 0 1 d d′ → Painted (λ t. grey (φ t)) 0 0 (x + 1) d₀ d′
-factor-more φ v i x d₀ d d′ at e l P Q = painted-more (λ t. grey (φ t)) _ 0 i 0 x d₀ d d′ (omega arith) (omega arith) (unpacked-grey v l ∙ ap grey e) P Q
+-- one pixel's factor more
+pub factor-more : (φ : ℕ → ℕ) (v r i x : ℕ) (d₀ d d′ : List ℕ) → i ≡ 4 * x → r ≡ v * 65537 → v ≡ φ x → v < 256 → Painted (λ t. twice (φ t)) 0 0 x d₀ d → Painted (λ _. unpacked r) i 0 1 d d′ → Painted (λ t. twice (φ t)) 0 0 (x + 1) d₀ d′
+factor-more φ v r i x d₀ d d′ at er e l P Q = painted-more (λ t. twice (φ t)) _ 0 i 0 x d₀ d d′ (omega arith) (omega arith) (ap unpacked er ∙ unpacked-twice v l ∙ ap twice e) P Q

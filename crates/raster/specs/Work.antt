@@ -5,16 +5,21 @@ use mathlib.Core.List.{List}
 use lib.ListN.{getD}
 use Rattle.pixel.specs.declared.Pixel.{Pixel}
 use Rattle.pixel.specs.Alpha.{pixel}
-use Rattle.pixel.specs.Bytes.{pixelAt}
-use Rattle.raster.specs.Scan.{valid?}
+use Rattle.pixel.specs.Bytes.{pixelAt, valid?}
+use Rattle.raster.specs.Word.{pairAt}
+use Rattle.raster.specs.Factors.{alphaOf}
 
--- the same byte in all four channels
-abbrev pub grey : ℕ → Pixel
-grey v = pixel v v v v
+-- a factor for the first two channels and for the last two, as numbers of 16 bits
+abbrev pub twice : ℕ → Pixel
+twice v = pixel v 0 v 0
 
 -- the alpha of the pixel of which i is a byte
 abbrev pub alphaAt : List ℕ → ℕ → ℕ
-alphaAt d i = getD d (4 * (i / 4) + 3) 0
+alphaAt d i = alphaOf d (i / 4)
+
+-- a row of factors, read for each byte
+abbrev pub row : List ℕ → ℕ → ℕ
+row d i = pairAt d (i / 2)
 
 -- a byte u weighted by f, and a byte v by g
 abbrev pub weighted : ℕ → ℕ → ℕ → ℕ → ℕ
@@ -24,12 +29,10 @@ weighted u f v g = u * f + v * g
 abbrev pub blended : List ℕ → (ℕ → ℕ) → List ℕ → (ℕ → ℕ) → ℕ → ℕ
 blended a f b g i = (weighted (getD a i 0) (f i) (getD b i 0) (g i) + 127) / 255
 
--- a row of factors
-abbrev pub row : List ℕ → ℕ → ℕ
-row d i = getD d i 0
-
--- the first n weighted sums are at most 255·255
+-- the factors are bytes, and the first n weighted sums are at most 255·255
 pub record Fitting (a : List ℕ) (f : ℕ → ℕ) (b : List ℕ) (g : ℕ → ℕ) (n : ℕ) : Type 0 where
+  pub small-f : (i : ℕ) → i < n → f i < 256
+  pub small-g : (i : ℕ) → i < n → g i < 256
   pub fits : (i : ℕ) → i < n → weighted (getD a i 0) (f i) (getD b i 0) (g i) ≤ 65025
 
 -- r parts the places from `from` up to `to`: those before it lie, with m added, before t, and the others do not

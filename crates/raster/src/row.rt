@@ -4,7 +4,7 @@ ghost use Prim.Native.Nat.{_+_, _-_, _*_, _≤_};
 ghost use lib.ListN.{length, replicate};
 ghost use Rattle.pixel.specs.Alpha.{clear as transparent};
 ghost use Rattle.pixel.specs.Bytes.{pixelAt, Painted};
-ghost use Rattle.raster.specs.Row.{alphaOf, moved};
+ghost use Rattle.raster.specs.Row.{alphaOnly, moved};
 ghost use Rattle.raster.specs.Work.{Parted};
 use super::bytes;
 use pixel::Pixel;
@@ -42,7 +42,7 @@ pub fn fill(dst: &mut [u8], n: usize, p: Pixel)
 // The source's alpha.
 pub fn alpha_row(src: &[u8], dst: &mut [u8], n: usize)
     requires { ⌜ (4 * n ≤ length (now src)) × (4 * n ≤ length (now dst)) ⌝ }
-    ensures { λ _. ⌜ Painted (λ x. alphaOf (pixelAt (now (src .entry)) (4 * x))) 0 0 n (now (dst .entry)) (now (dst .exit)) ⌝ }
+    ensures { λ _. ⌜ Painted (λ x. alphaOnly (pixelAt (now (src .entry)) (4 * x))) 0 0 n (now (dst .entry)) (now (dst .exit)) ⌝ }
 {
     for x in 0..n {
         let i = 4 * x;

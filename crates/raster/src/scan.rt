@@ -3,16 +3,10 @@ ghost use mathlib.Core.Path.{_≡_};
 ghost use Prim.Native.Nat.{_+_, _*_, _≤_, _<_};
 ghost use mathlib.Core.Bool.{not};
 ghost use lib.ListN.{length};
-ghost use Rattle.pixel.specs.Bytes.{pixelAt};
+ghost use Rattle.pixel.specs.Bytes.{pixelAt, valid?, firstInvalid};
 ghost use Rattle.raster.specs.Word.{unpacked};
-ghost use Rattle.raster.specs.Scan.{valid?, firstInvalid};
 ghost use Rattle.raster.specs.Work.{allValid?};
 use super::bytes;
-
-pub enum Found {
-    At(usize),
-    Nothing,
-}
 
 // Whether a colour of the pixel v exceeds its alpha.
 fn exceeds(v: u32) -> bool
@@ -34,13 +28,12 @@ fn spoilt(s: &[u8], n: usize) -> bool
     bad
 }
 
-// The first pixel, of h rows of w pixels, with a colour above its alpha.
-pub fn first_invalid(s: &[u8], w: usize, h: usize) -> Found
+// The first pixel, of h rows of w pixels, with a colour above its alpha, counted from 0; w * h where there is none.
+pub fn first_invalid(s: &[u8], w: usize, h: usize) -> usize
     requires { ⌜ length (now s) ≡ 4 * (w * h) ⌝ }
     ensures { λ r. ⌜ r ≡ firstInvalid (now (s .entry)) (w * h) ⌝ }
 {
-    let none = w * h;
-    let mut found = none;
+    let mut found = w * h;
     let mut p: usize = 0;
     'rows: for y in 0..h {
         let o = 4 * p;
@@ -55,9 +48,5 @@ pub fn first_invalid(s: &[u8], w: usize, h: usize) -> Found
         }
         p += w;
     }
-    if found < none {
-        Found::At(found)
-    } else {
-        Found::Nothing
-    }
+    found
 }

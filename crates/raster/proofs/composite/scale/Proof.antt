@@ -1,54 +1,75 @@
--- `raster::composite::scale` meets its contract: one more byte each turn. Assumes nothing.
+-- `raster::composite::scale` meets its contract: one more pair of bytes each turn. Assumes nothing.
 use mathlib.Core.Path.{_≡_, refl}
-use Prim.Native.Nat.{ℕ, _+_, _-_, _*_, _/_, _≤_, _<_}
+use Prim.Native.Nat.{ℕ, _+_, _-_, _*_, _≤_, _<_}
 use native.Mathlib.Omega.{arith}
 use borrow.Author.Needs.{needs}
-use lib.ListN.{length, getD}
+use lib.ListN.{length}
 use Rattle.window.specs.Store.{Filled}
-use Rattle.window.proofs.Store.{filled-none, filled-more}
+use Rattle.window.proofs.Store.{filled-none}
 use Rattle.raster.specs.Work.{blended, row}
+use Rattle.raster.proofs.Pairs.{weighs, blends, pair-more, row-even, row-odd, scales}
 use Rattle.raster.proofs.composite.scale.Statement.{statement}
 use Rattle.raster.proofs.composite.scale.Tie as tie
 
 abbrev Inv-loop : tie.InvT-loop
-Inv-loop a f dst₀ m i₀ dst i = (i ≤ length dst₀) × Filled (λ j. (getD a j 0 * getD f j 0 + 127) / 255) 0 i dst₀ dst
+Inv-loop a f dst₀ n m j₀ dst j = (j ≤ 2 * n) × Filled (blended a (row f) a (λ _. 0)) 0 (2 * j) dst₀ dst
 
 abbrev μ-loop : tie.MeasureT-loop
-μ-loop a f dst₀ m i₀ dst i = length dst₀ - i
+μ-loop a f dst₀ n m j₀ dst j = 2 * n - j
+
+mul-m : tie.Need-mul-m Inv-loop μ-loop
+mul-m c = search needs
 
 loop-holds : tie.Need-loop-holds Inv-loop μ-loop
 loop-holds c = (omega arith, filled-none _ _ _)
 
-shared-slice-read-scaled : tie.Need-shared-slice-read-scaled Inv-loop μ-loop
-shared-slice-read-scaled c = search needs
+pair-requires : tie.Need-pair-requires Inv-loop μ-loop
+pair-requires c κs = search needs
 
-shared-slice-read-scaled-2 : tie.Need-shared-slice-read-scaled-2 Inv-loop μ-loop
-shared-slice-read-scaled-2 c = search needs
+pair-requires-2 : tie.Need-pair-requires-2 Inv-loop μ-loop
+pair-requires-2 c κs = search needs
 
 scaled-requires : tie.Need-scaled-requires Inv-loop μ-loop
-scaled-requires c κs = search needs
+scaled-requires c κs =
+    let s = c .before .before .before .before .before .before .before .before in
+    let L = c .before .before .before .before .loop in
+    let a = s .args .a .now in
+    let x = c .before .pair in
+    let f = c .pair2 in
+    let w = weighs a a (row (s .args .f .now)) (λ _. 0) (L .j) (x .result) (x .result) (f .result) 0 (x .ensures) (x .ensures)
+    (row-even (s .args .f .now) (L .j) _ (f .ensures)) (row-odd (s .args .f .now) (L .j) _ (f .ensures))
+    refl refl
+    (4 * s .args .n) (omega arith) (s .pre .1) in
+    w .0
 
-slice-write-dst : tie.Need-slice-write-dst Inv-loop μ-loop
-slice-write-dst c = search needs
+put-pair-requires : tie.Need-put-pair-requires Inv-loop μ-loop
+put-pair-requires c κs = search needs
 
-add-i : tie.Need-add-i Inv-loop μ-loop
-add-i c = search needs
+add-j : tie.Need-add-j Inv-loop μ-loop
+add-j c = search needs
 
 loop-less : tie.Need-loop-less Inv-loop μ-loop
 loop-less c = search needs
 
 loop-again : tie.Need-loop-again Inv-loop μ-loop
 loop-again c =
-    let L = c .before .before .before .before .loop in
-    let h : L .i < length (c .before .before .before .before .before .before .before .before .args .dst .now) = omega arith in
-    (omega arith, filled-more _ _ _ _ _ _ (omega arith) h (c .scaled .ensures) (L .inv .1))
+    let s = c .before .before .before .before .before .before .before .before .before .before .before .before in
+    let L = c .before .before .before .before .before .before .before .before .loop in
+    let a = s .args .a .now in
+    let x = c .before .before .before .before .before .pair in
+    let f = c .before .before .before .before .pair2 in
+    let v = blends a a (row (s .args .f .now)) (λ _. 0) (L .j) (x .result) (x .result) (f .result) 0 (x .ensures) (x .ensures)
+    (row-even (s .args .f .now) (L .j) _ (f .ensures)) (row-odd (s .args .f .now) (L .j) _ (f .ensures))
+    refl refl
+    _ (scales _ _ _ (c .before .before .before .scaled .ensures)) in
+    (omega arith, pair-more _ (L .j) _ _ _ _ (omega arith) v (L .inv .1) (c .before .before .put-pair .ensures))
 
 same-length : tie.Need-same-length Inv-loop μ-loop
 same-length c = c .before .loop .inv .1 .long
 
 returns : tie.Need-returns Inv-loop μ-loop
 returns c =
-    let e : c .before .loop .i ≡ length (c .before .before .before .before .before .args .dst .now) = omega arith in
+    let e : 2 * c .before .loop .j ≡ 4 * c .before .before .before .before .before .args .n = omega arith in
     rw e at (c .before .loop .inv .1)
 
 pub scale-spec : {M : Type 1} → statement M
@@ -57,12 +78,13 @@ scale-spec =
     (tie.spec
     Inv-loop
     μ-loop
+    mul-m
     loop-holds
-    shared-slice-read-scaled
-    shared-slice-read-scaled-2
+    pair-requires
+    pair-requires-2
     scaled-requires
-    slice-write-dst
-    add-i
+    put-pair-requires
+    add-j
     loop-less
     loop-again
     same-length

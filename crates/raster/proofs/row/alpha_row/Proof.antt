@@ -4,14 +4,14 @@ use Prim.Native.Nat.{ℕ, _+_, _-_, _*_, _≤_, _<_}
 use native.Mathlib.Omega.{arith}
 use borrow.Author.Needs.{needs}
 use Rattle.pixel.specs.Bytes.{pixelAt, Painted}
-use Rattle.raster.specs.Row.{alphaOf}
+use Rattle.raster.specs.Row.{alphaOnly}
 use Rattle.raster.proofs.Painting.{painted-none, painted-more}
 use Rattle.raster.proofs.Words.{unpacked-alpha}
 use Rattle.raster.proofs.row.alpha_row.Statement.{statement}
 use Rattle.raster.proofs.row.alpha_row.Tie as tie
 
 abbrev Inv-loop : tie.InvT-loop
-Inv-loop src dst₀ n x₀ dst x = (x ≤ n) × Painted (λ t. alphaOf (pixelAt src (4 * t))) 0 0 x dst₀ dst
+Inv-loop src dst₀ n x₀ dst x = (x ≤ n) × Painted (λ t. alphaOnly (pixelAt src (4 * t))) 0 0 x dst₀ dst
 
 abbrev μ-loop : tie.MeasureT-loop
 μ-loop src dst₀ n x₀ dst x = n - x

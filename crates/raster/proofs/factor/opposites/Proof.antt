@@ -1,18 +1,18 @@
--- `raster::composite::alphas` meets its contract: one more pixel's factor each turn. Assumes nothing.
+-- `raster::factor::opposites` meets its contract: one more pixel's factor each turn. Assumes nothing.
 use mathlib.Core.Path.{_≡_, refl, ap}
 use Prim.Native.Nat.{ℕ, _+_, _-_, _*_, _/_, _≤_, _<_}
 use native.Mathlib.Omega.{arith}
 use borrow.Author.Needs.{needs}
-use lib.ListN.{length, getD}
-use Rattle.pixel.specs.Bytes.{pixelAt, Painted}
-use Rattle.raster.specs.Work.{grey}
+use Rattle.pixel.specs.Bytes.{Painted}
+use Rattle.raster.specs.Factors.{alphaOf}
+use Rattle.raster.specs.Work.{twice}
 use Rattle.raster.proofs.Painting.{painted-none}
 use Rattle.raster.proofs.Words.{packed-alpha, factor-more}
-use Rattle.raster.proofs.composite.alphas.Statement.{statement}
-use Rattle.raster.proofs.composite.alphas.Tie as tie
+use Rattle.raster.proofs.factor.opposites.Statement.{statement}
+use Rattle.raster.proofs.factor.opposites.Tie as tie
 
 abbrev Inv-loop : tie.InvT-loop
-Inv-loop a f₀ n x₀ f x = (x ≤ n) × Painted (λ t. grey (getD a (4 * t + 3) 0)) 0 0 x f₀ f
+Inv-loop a f₀ n x₀ f x = (x ≤ n) × Painted (λ t. twice (255 - alphaOf a t)) 0 0 x f₀ f
 
 abbrev μ-loop : tie.MeasureT-loop
 μ-loop a f₀ n x₀ f x = n - x
@@ -26,8 +26,11 @@ mul-i c = search needs
 word-requires : tie.Need-word-requires Inv-loop μ-loop
 word-requires c κs = search needs
 
-mul-put : tie.Need-mul-put Inv-loop μ-loop
-mul-put c = search needs
+sub-doubled : tie.Need-sub-doubled Inv-loop μ-loop
+sub-doubled c = search needs
+
+doubled-requires : tie.Need-doubled-requires Inv-loop μ-loop
+doubled-requires c κs = search needs
 
 put-requires : tie.Need-put-requires Inv-loop μ-loop
 put-requires c κs = search needs
@@ -40,10 +43,11 @@ loop-less c = search needs
 
 loop-again : tie.Need-loop-again Inv-loop μ-loop
 loop-again c =
-    let at = c .before .before .before .before .before .before in
-    let w = c .before .before .before .word in
-    let e = packed-alpha _ (w .result) (w .ensures) in
-    (omega arith, factor-more _ _ _ (at .loop .x) _ _ _ refl e (omega (arith, e)) (at .loop .inv .1) (c .before .before .put .ensures))
+    let at = c .before .before .before .before .before .before .before in
+    let w = c .before .before .before .before .word in (
+      omega arith,
+      factor-more _ (255 - w .result / 16777216) _ _ (at .loop .x) _ _ _ refl (c .before .before .before .doubled .ensures) (ap (λ (t : ℕ). 255 - t) (packed-alpha _ (w .result) (w .ensures))) (omega arith) (at .loop .inv .1) (c .before .before .put .ensures),
+    )
 
 same-length : tie.Need-same-length Inv-loop μ-loop
 same-length c = c .before .loop .inv .1 .long
@@ -53,8 +57,8 @@ returns c =
     let e : c .before .loop .x ≡ c .before .before .before .before .args .n = omega arith in
     rw e at (c .before .loop .inv .1)
 
-pub alphas-spec : {M : Type 1} → statement M
-alphas-spec =
+pub opposites-spec : {M : Type 1} → statement M
+opposites-spec =
     tie.close
     (tie.spec
     Inv-loop
@@ -62,7 +66,8 @@ alphas-spec =
     loop-holds
     mul-i
     word-requires
-    mul-put
+    sub-doubled
+    doubled-requires
     put-requires
     add-x
     loop-less

@@ -1,18 +1,18 @@
--- `raster::composite::opposites` meets its contract: one more pixel's factor each turn. Assumes nothing.
+-- `raster::factor::alphas` meets its contract: one more pixel's factor each turn. Assumes nothing.
 use mathlib.Core.Path.{_≡_, refl, ap}
 use Prim.Native.Nat.{ℕ, _+_, _-_, _*_, _/_, _≤_, _<_}
 use native.Mathlib.Omega.{arith}
 use borrow.Author.Needs.{needs}
-use lib.ListN.{length, getD}
-use Rattle.pixel.specs.Bytes.{pixelAt, Painted}
-use Rattle.raster.specs.Work.{grey}
+use Rattle.pixel.specs.Bytes.{Painted}
+use Rattle.raster.specs.Factors.{alphaOf}
+use Rattle.raster.specs.Work.{twice}
 use Rattle.raster.proofs.Painting.{painted-none}
 use Rattle.raster.proofs.Words.{packed-alpha, factor-more}
-use Rattle.raster.proofs.composite.opposites.Statement.{statement}
-use Rattle.raster.proofs.composite.opposites.Tie as tie
+use Rattle.raster.proofs.factor.alphas.Statement.{statement}
+use Rattle.raster.proofs.factor.alphas.Tie as tie
 
 abbrev Inv-loop : tie.InvT-loop
-Inv-loop a f₀ n x₀ f x = (x ≤ n) × Painted (λ t. grey (255 - getD a (4 * t + 3) 0)) 0 0 x f₀ f
+Inv-loop a f₀ n x₀ f x = (x ≤ n) × Painted (λ t. twice (alphaOf a t)) 0 0 x f₀ f
 
 abbrev μ-loop : tie.MeasureT-loop
 μ-loop a f₀ n x₀ f x = n - x
@@ -26,11 +26,8 @@ mul-i c = search needs
 word-requires : tie.Need-word-requires Inv-loop μ-loop
 word-requires c κs = search needs
 
-sub-put : tie.Need-sub-put Inv-loop μ-loop
-sub-put c = search needs
-
-mul-put : tie.Need-mul-put Inv-loop μ-loop
-mul-put c = search needs
+doubled-requires : tie.Need-doubled-requires Inv-loop μ-loop
+doubled-requires c κs = search needs
 
 put-requires : tie.Need-put-requires Inv-loop μ-loop
 put-requires c κs = search needs
@@ -43,10 +40,11 @@ loop-less c = search needs
 
 loop-again : tie.Need-loop-again Inv-loop μ-loop
 loop-again c =
-    let at = c .before .before .before .before .before .before in
-    let w = c .before .before .before .word in
-    let e = packed-alpha _ (w .result) (w .ensures) in
-    (omega arith, factor-more _ _ _ (at .loop .x) _ _ _ refl (ap (λ (t : ℕ). 255 - t) e) (omega (arith, e)) (at .loop .inv .1) (c .before .before .put .ensures))
+    let at = c .before .before .before .before .before .before .before in
+    let w = c .before .before .before .before .word in (
+      omega arith,
+      factor-more _ (w .result / 16777216) _ _ (at .loop .x) _ _ _ refl (c .before .before .before .doubled .ensures) (packed-alpha _ (w .result) (w .ensures)) (omega arith) (at .loop .inv .1) (c .before .before .put .ensures),
+    )
 
 same-length : tie.Need-same-length Inv-loop μ-loop
 same-length c = c .before .loop .inv .1 .long
@@ -56,8 +54,8 @@ returns c =
     let e : c .before .loop .x ≡ c .before .before .before .before .args .n = omega arith in
     rw e at (c .before .loop .inv .1)
 
-pub opposites-spec : {M : Type 1} → statement M
-opposites-spec =
+pub alphas-spec : {M : Type 1} → statement M
+alphas-spec =
     tie.close
     (tie.spec
     Inv-loop
@@ -65,8 +63,7 @@ opposites-spec =
     loop-holds
     mul-i
     word-requires
-    sub-put
-    mul-put
+    doubled-requires
     put-requires
     add-x
     loop-less
