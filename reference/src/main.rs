@@ -2,7 +2,7 @@
 
 use reference::fault::Fault;
 use reference::random::Random;
-use reference::{budget, cases::texts, print, sums};
+use reference::{budget, cases::{plans, texts}, print, sums};
 use std::io::{Read, Write};
 use std::path::Path;
 use std::process::ExitCode;
@@ -10,6 +10,7 @@ use std::process::ExitCode;
 const USAGE: &str = "usage:
   reference sheet                    text from standard input, answer to standard output
   reference texts FOLDER [SEED]      writes FOLDER/texts and FOLDER/answers
+  reference plans FOLDER [SEED]      writes FOLDER/plans.in and FOLDER/plans.expected
   reference sums                     checksums of large renders
   reference faults [CASES]           tries every seeded fault
   reference selftest SECONDS [SEED]  the comparison, of the rules with themselves
@@ -24,6 +25,7 @@ fn main() -> ExitCode {
     match (words.as_slice(), number(1, 0), number(2, 1)) {
         (["sheet"], ..) => sheet(),
         (["texts", folder] | ["texts", folder, _], _, Some(seed)) => write_texts(Path::new(folder), seed),
+        (["plans", folder] | ["plans", folder, _], _, Some(seed)) => write_plans(Path::new(folder), seed),
         (["sums"], ..) => {
             print!("{}", sums::all());
             ExitCode::SUCCESS
@@ -62,6 +64,11 @@ fn done(result: std::io::Result<()>) -> ExitCode {
             ExitCode::FAILURE
         }
     }
+}
+
+fn write_plans(folder: &Path, seed: u64) -> ExitCode {
+    let (given, answers) = plans::entries(seed, 600);
+    done(std::fs::write(folder.join("plans.in"), given).and(std::fs::write(folder.join("plans.expected"), answers)))
 }
 
 /// Two files: a head line, then for each entry its length in decimal, a line feed, and its bytes.

@@ -1,9 +1,9 @@
 // Document 01's "Checked by hand", those that numbers and pixels can answer: P1 to P5, P7, P8, P12, and the 'Run' cases of numbers.
 ghost use Rattle.pixel.specs.Alpha.{Valid};
 ghost use Rattle.pixel.specs.Coefficient.{Allowed};
+use super::field;
 use super::numbers;
 use super::pixels;
-use super::text;
 use number::Fixed;
 use number::Judged;
 use number::Number;
@@ -29,19 +29,19 @@ fn coefficient(number: Number) -> Fixed
 }
 
 fn print_byte(name: &[u8], value: u8) {
-    text::word(name);
-    text::number(value as u64);
-    text::end();
+    field::word(name);
+    field::number(value as u64);
+    field::end();
 }
 
 fn print_pixel(name: &[u8], value: Pixel) {
-    text::word(name);
+    field::word(name);
     pixels::print_pixel(value);
-    text::end();
+    field::end();
 }
 
 fn print_number(name: &[u8], range: Range, number: Number) {
-    text::word(name);
+    field::word(name);
     numbers::print(number::judge(range, number));
 }
 
@@ -79,11 +79,11 @@ fn print_arithmetic() {
 
 fn print_matrices() {
     let m = pixel::color_matrix::saturation_matrix(0);
-    text::word(b"P7");
-    text::number(m.r.r.above);
-    text::number(m.r.g.above);
-    text::number(m.r.b.above);
-    text::end();
+    field::word(b"P7");
+    field::number(m.r.r.above);
+    field::number(m.r.g.above);
+    field::number(m.r.b.above);
+    field::end();
     let white = opaque(255, 255, 255);
     let l = pixel::color_matrix::luminance_matrix();
     print_pixel(b"P8", pixel::color_matrix::transform(l, white));

@@ -1,11 +1,13 @@
 // Runs the worked examples and the tables of data/, a line a case. The expected lines are worked out by other means: tests/.
+mod field;
 mod hand;
 mod numbers;
 mod pixels;
-mod text;
+mod plans;
 
 fn main() {
     hand::print_all();
     numbers::print_all();
     pixels::print_all();
+    plans::print_all();
 }

@@ -1,7 +1,7 @@
 // Numbers at every edge of every range: data/numbers.in, made by tests/number_cases.py.
 ghost use mathlib.Core.Path.{_≡_};
 ghost use lib.ListN.{length};
-use super::text;
+use super::field;
 use number::Judged;
 use number::Number;
 use number::Range;
@@ -35,22 +35,22 @@ fn number_of(kind: u8, bits: u64) -> Number {
 pub fn print(judged: Judged) {
     match judged {
         Judged::Accepted(f) => {
-            text::number(f.above);
-            text::number(f.below);
+            field::number(f.above);
+            field::number(f.below);
         }
         Judged::Refused(fault) => {
-            text::word(b" refused");
-            text::number(number::fault_number(fault) as u64);
+            field::word(b" refused");
+            field::number(number::fault_number(fault) as u64);
         }
     }
-    text::end();
+    field::end();
 }
 
 fn print_case(line: &[u8])
     requires { ⌜ length (now line) ≡ 21 ⌝ }
 {
     io::write_all(1, &line[..20]);
-    let bits = text::hex(line, 4, 16);
+    let bits = field::hex(line, 4, 16);
     print(number::judge(range_of(line[0]), number_of(line[2], bits)));
 }
 

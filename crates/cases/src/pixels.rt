@@ -4,7 +4,7 @@ ghost use Prim.Native.Nat.{_≤_, _<_};
 ghost use lib.ListN.{length};
 ghost use Rattle.pixel.specs.Alpha.{Valid};
 ghost use Rattle.pixel.specs.Coefficient.{Allowed, AllowedArithmetic, AllowedMatrix, AllowedRow};
-use super::text;
+use super::field;
 use number::Fixed;
 use pixel::Arithmetic;
 use pixel::Matrix;
@@ -16,7 +16,7 @@ fn byte_at(line: &[u8], at: usize) -> u8
     requires { ⌜ length (now line) ≡ 199 ⌝ }
     requires { ⌜ at ≤ 197 ⌝ }
 {
-    (text::hex(line, at, 2) % 256) as u8
+    (field::hex(line, at, 2) % 256) as u8
 }
 
 fn pixel_at(line: &[u8], at: usize) -> Pixel
@@ -44,7 +44,7 @@ fn coefficient(line: &[u8], i: usize) -> Fixed
     ensures { λ r. ⌜ Allowed r ⌝ }
 {
     let at = 18 + 9 * i;
-    let units = least(text::hex(line, at + 1, 8), 16777216);
+    let units = least(field::hex(line, at + 1, 8), 16777216);
     if line[at] == 45 {
         return Fixed {
             above: 0,
@@ -106,12 +106,12 @@ fn operator(digit: u8) -> Operator {
 }
 
 fn print_byte(value: u8) {
-    text::bytes(value as u64, 2);
+    field::bytes(value as u64, 2);
 }
 
 pub fn print_pixel(p: Pixel) {
     let high = (p.r as u64) * 16777216 + (p.g as u64) * 65536;
-    text::bytes(high + (p.b as u64) * 256 + (p.a as u64), 8);
+    field::bytes(high + (p.b as u64) * 256 + (p.a as u64), 8);
 }
 
 fn lesser(a: u8, b: u8) -> u8
@@ -162,7 +162,7 @@ fn print_saturate(line: &[u8])
     requires { ⌜ length (now line) ≡ 199 ⌝ }
 {
     let a = valid_at(line, 2);
-    let s = least(text::hex(line, 19, 8), 65536);
+    let s = least(field::hex(line, 19, 8), 65536);
     print_pixel(pixel::color_matrix::transform(pixel::color_matrix::saturation_matrix(s), a));
 }
 
@@ -177,7 +177,7 @@ fn print_flood(line: &[u8])
     requires { ⌜ length (now line) ≡ 199 ⌝ }
 {
     let p = pixel_at(line, 2);
-    let opacity = least(text::hex(line, 19, 8), 65536);
+    let opacity = least(field::hex(line, 19, 8), 65536);
     print_pixel(pixel::flood::flood(p.r, p.g, p.b, opacity));
 }
 
@@ -208,10 +208,10 @@ fn print_next(file: i32, n: u64) -> bool {
         return false;
     }
     io::print_decimal(1, n);
-    text::word(b" ");
+    field::word(b" ");
     io::write_all(1, &line[..1]);
     print_result(&line);
-    text::end();
+    field::end();
     true
 }
 

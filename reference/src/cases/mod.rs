@@ -1,5 +1,6 @@
 //! Random calls: sheets, pictures, buffers and rectangles, valid ones and damaged ones.
 
+pub mod plans;
 pub mod numbers;
 pub mod spoil;
 pub mod texts;
