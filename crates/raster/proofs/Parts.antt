@@ -1,5 +1,5 @@
 -- A part of a list that was lent and came back. Assumes nothing.
-use mathlib.Core.Path.{_≡_, refl, sym, ap, _∙_}
+use mathlib.Core.Path.{_≡_, sym, ap, subst, _∙_}
 use mathlib.Core.List.{List, _++_}
 use mathlib.Core.Logic.{⊎-elim}
 use Prim.Native.Nat.{ℕ, _+_, _-_, _*_, _≤_, _<_}
@@ -9,8 +9,8 @@ use lib.Seq.{getD-take, getD-drop, getD-append-add, length-take-le, ext-getD}
 use Rattle.window.specs.Store.{Filled}
 use Rattle.window.proofs.Store.{lt-or-le}
 use Rattle.pixel.specs.declared.Pixel.{Pixel}
-use Rattle.pixel.specs.Alpha.{clear}
-use Rattle.pixel.specs.Bytes.{pixelAt, Painted}
+use Rattle.pixel.specs.Alpha.{clear, Valid}
+use Rattle.pixel.specs.Bytes.{pixelAt, Painted, ValidRow}
 use Rattle.raster.proofs.Painting.{pixel-by, pixel-same}
 
 -- d after the k elements from o on were lent and came back as m
@@ -46,6 +46,16 @@ module _ (d : List ℕ) (o k : ℕ) (m : List ℕ) (fits : o + k ≤ length d) (
       ∙ getD-drop k (drop o d) (j - o - k) 0
       ∙ getD-drop o d (k + (j - o - k)) 0
       ∙ ap (λ (n : ℕ). getD d n 0) (sym e)
+
+-- the pixels of a part that begins at pixel p
+pub part-pixel : (d : List ℕ) (k o p x : ℕ) → o ≡ 4 * p → 4 * x + 4 ≤ k → pixelAt (take k (drop o d)) (4 * x) ≡ pixelAt d (4 * (p + x))
+part-pixel d k o p x e l = pixel-same (take k (drop o d)) d (4 * x) (4 * (p + x)) (λ c h.
+    let q : o + (4 * x + c) ≡ 4 * (p + x) + c = omega arith in
+    getD-take k (drop o d) (4 * x + c) 0 (omega arith) ∙ getD-drop o d (4 * x + c) 0 ∙ ap (λ (i : ℕ). getD d i 0) q)
+
+-- n valid pixels of a part that begins at pixel p
+pub valid-part : (d : List ℕ) (k o p n m : ℕ) → o ≡ 4 * p → 4 * n ≤ k → p + n ≤ m → ValidRow d m → ValidRow (take k (drop o d)) n
+valid-part d k o p n m e l h H = record { valid = λ x lx. subst Valid (sym (part-pixel d k o p x e (omega arith))) (H .valid (p + x) (omega arith)) }
 
 -- a lent part that came back with the pixels f from `from` up to `to`
 pub painted-part : (f : ℕ → Pixel) (o lo k from to : ℕ) (d m : List ℕ) → lo ≡ o + 4 * from → k ≡ 4 * to - 4 * from → from ≤ to → lo + k ≤ length d → length m ≡ k
@@ -117,6 +127,6 @@ pub copied-part : (lo k o l n from to : ℕ) (s d m : List ℕ) → lo ≡ 4 * f
 copied-part lo k o l n from to s d m el ek eo en le fits room e =
     let long : length m ≡ k = rw e (length-take-le l (drop o s) (simp length-drop (omega arith)) ∙ en) in
     painted-part (λ x. pixelAt s (4 * (n + (x - from)))) 0 lo k from to d m (omega arith) ek le (omega arith) long
-    (λ j h. pixel-same m s (4 * j) (4 * (n + (from + j - from))) (λ c lc.
-    let q : o + (4 * j + c) ≡ 4 * (n + (from + j - from)) + c = omega arith in
-    rw e (getD-take l (drop o s) (4 * j + c) 0 (omega arith) ∙ getD-drop o s (4 * j + c) 0 ∙ ap (λ (i : ℕ). getD s i 0) q)))
+    (λ j h.
+    let q : n + (from + j - from) ≡ n + j = omega arith in
+    rw (e, q) (part-pixel s l o n j eo (omega arith)))

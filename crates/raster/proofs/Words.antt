@@ -1,14 +1,14 @@
 -- Packed pixels taken apart again. Assumes nothing.
-use mathlib.Core.Path.{_≡_, refl, ap, _∙_}
+use mathlib.Core.Path.{_≡_, ap, _∙_}
 use mathlib.Core.List.{List}
-use Prim.Native.Nat.{ℕ, _+_, _-_, _*_, _/_, _%_, _<_}
+use Prim.Native.Nat.{ℕ, _+_, _-_, _*_, _/_, _<_}
 use native.Mathlib.Omega.{arith}
 use Rattle.pixel.specs.declared.Pixel.{Pixel}
 use Rattle.pixel.specs.Alpha.{pixel, Bytes}
 use Rattle.pixel.specs.Bytes.{Painted}
 use Rattle.raster.specs.Word.{packed, unpacked, Packed}
 use Rattle.raster.specs.Row.{alphaOnly}
-use Rattle.raster.specs.Work.{twice}
+use Rattle.raster.specs.Factors.{twice}
 use Rattle.raster.proofs.Painting.{painted-more}
 
 same : (p q : Pixel) → p .r ≡ q .r → p .g ≡ q .g → p .b ≡ q .b → p .a ≡ q .a → p ≡ q

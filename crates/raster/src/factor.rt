@@ -3,8 +3,7 @@ ghost use mathlib.Core.Path.{_≡_};
 ghost use Prim.Native.Nat.{_+_, _-_, _*_, _≤_, _<_};
 ghost use lib.ListN.{length};
 ghost use Rattle.pixel.specs.Bytes.{Painted};
-ghost use Rattle.raster.specs.Factors.{alphaOf, Factors};
-ghost use Rattle.raster.specs.Work.{twice};
+ghost use Rattle.raster.specs.Factors.{twice, alphaOf, Factors};
 use super::bytes;
 use pixel::Operator;
 

@@ -1,5 +1,4 @@
 -- `raster::bytes::put` meets its contract: four stores paint one pixel. Assumes nothing.
-use Prim.Native.Nat.{_+_, _≤_}
 use native.Mathlib.Omega.{arith}
 use borrow.Author.Needs.{needs}
 use lib.ListN.{length-set}

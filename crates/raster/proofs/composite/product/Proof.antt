@@ -1,7 +1,6 @@
 -- `raster::composite::product` meets its contract: 255·255 fits. Assumes nothing.
 use mathlib.Core.Path.{refl}
 use native.Mathlib.Omega.{arith}
-use borrow.Author.Needs.{needs}
 use Rattle.raster.proofs.Blending.{byte-product}
 use Rattle.raster.proofs.composite.product.Statement.{statement}
 use Rattle.raster.proofs.composite.product.Tie as tie

@@ -1,11 +1,10 @@
 -- `raster::factor::alphas` meets its contract: one more pixel's factor each turn. Assumes nothing.
-use mathlib.Core.Path.{_≡_, refl, ap}
-use Prim.Native.Nat.{ℕ, _+_, _-_, _*_, _/_, _≤_, _<_}
+use mathlib.Core.Path.{_≡_, refl}
+use Prim.Native.Nat.{_-_, _/_, _≤_}
 use native.Mathlib.Omega.{arith}
 use borrow.Author.Needs.{needs}
 use Rattle.pixel.specs.Bytes.{Painted}
-use Rattle.raster.specs.Factors.{alphaOf}
-use Rattle.raster.specs.Work.{twice}
+use Rattle.raster.specs.Factors.{twice, alphaOf}
 use Rattle.raster.proofs.Painting.{painted-none}
 use Rattle.raster.proofs.Words.{packed-alpha, factor-more}
 use Rattle.raster.proofs.factor.alphas.Statement.{statement}

@@ -1,6 +1,6 @@
 -- `raster::row::shift_row` meets its contract: the row shows between the two parting places, and is transparent before and after them.
 -- Assumes nothing.
-use Prim.Native.Nat.{ℕ, _+_, _-_, _*_, _≤_, _<_}
+use Prim.Native.Nat.{_-_, _<_}
 use native.Mathlib.Omega.{arith}
 use borrow.Author.Needs.{needs}
 use Rattle.raster.proofs.Painting.{painted-as, painted-join}
