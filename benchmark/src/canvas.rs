@@ -1,0 +1,73 @@
+//! The pictures and work rows that the kernels are measured on.
+use crate::kernels::{self, Coefficients};
+
+pub const HALF: Coefficients = [0, 32768, 32768, 0];
+pub const SATURATION: u64 = 32768;
+
+pub struct Canvas {
+    pub side: usize,
+    pub a: Vec<u8>,
+    pub b: Vec<u8>,
+    pub out: Vec<u8>,
+    /// Two pictures beside each other, for passes down a picture.
+    pub pair: Vec<u8>,
+    /// Lines of eight rows, twice, for passes along rows.
+    pub tile: Vec<u8>,
+    /// A row, twice.
+    pub two_rows: Vec<u8>,
+    pub sums: Vec<u16>,
+    pub row_a: Vec<u8>,
+    pub row_b: Vec<u8>,
+    pub factor_a: Vec<u8>,
+    pub factor_b: Vec<u8>,
+    pub products: Box<[u8; 65536]>,
+    pub weights: Box<[u64; 4096]>,
+    pub inverse: Box<[u32; 512]>,
+    pub luminance: Box<[u32; 768]>,
+}
+
+/// A picture in which no colour exceeds its alpha, by a xorshift generator.
+fn picture(side: usize, mut state: u64) -> Vec<u8> {
+    let mut pixels = Vec::with_capacity(4 * side * side);
+    for _ in 0..side * side {
+        state ^= state << 13;
+        state ^= state >> 7;
+        state ^= state << 17;
+        let alpha = (state >> 56) as u32;
+        for shift in [0, 16, 32] {
+            let color = (state >> shift) as u16 as u32;
+            pixels.push((color % (alpha + 1)) as u8);
+        }
+        pixels.push(alpha as u8);
+    }
+    pixels
+}
+
+impl Canvas {
+    pub fn new(side: usize) -> Canvas {
+        let (row, size) = (4 * side, 4 * side * side);
+        let mut canvas = Canvas {
+            side,
+            a: picture(side, 0x9e3779b97f4a7c15),
+            b: picture(side, 0xd1b54a32d192ed03),
+            out: vec![1; size],
+            pair: vec![1; 2 * size],
+            tile: vec![0; 64 * side],
+            two_rows: vec![0; 2 * row],
+            sums: vec![0; row],
+            row_a: vec![0; row],
+            row_b: vec![0; row],
+            factor_a: vec![0; row],
+            factor_b: vec![0; row],
+            products: Box::new([0; 65536]),
+            weights: Box::new([0; 4096]),
+            inverse: Box::new([0; 512]),
+            luminance: Box::new([0; 768]),
+        };
+        kernels::prepare_arithmetic(HALF, &mut canvas.products);
+        kernels::prepare_saturate(SATURATION, &mut canvas.weights);
+        kernels::prepare_unpremultiply(&mut canvas.inverse);
+        kernels::prepare_luminance(&mut canvas.luminance);
+        canvas
+    }
+}

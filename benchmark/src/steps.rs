@@ -1,0 +1,108 @@
+//! What is measured: each kernel over a whole picture, as a step would call it.
+use crate::canvas::{Canvas, HALF, SATURATION};
+use crate::kernels;
+use std::hint::black_box;
+
+pub struct Step {
+    pub name: String,
+    /// At most so many memory passes, where a figure is set.
+    pub target: Option<f64>,
+    pub run: Box<dyn Fn(&mut Canvas)>,
+}
+
+fn step(name: impl Into<String>, target: impl Into<Option<f64>>, run: impl Fn(&mut Canvas) + 'static) -> Step {
+    Step { name: name.into(), target: target.into(), run: Box::new(run) }
+}
+
+/// Each row of a and of the result.
+fn rows(c: &mut Canvas, work: impl Fn(&[u8], &mut [u8])) {
+    for (src, dst) in c.a.chunks_exact(4 * c.side).zip(c.out.chunks_exact_mut(4 * c.side)) {
+        work(src, dst);
+    }
+}
+
+fn composite(c: &mut Canvas, op: u8) {
+    let row = 4 * c.side;
+    for ((a, b), dst) in c.a.chunks_exact(row).zip(c.b.chunks_exact(row)).zip(c.out.chunks_exact_mut(row)) {
+        kernels::copy(a, &mut c.row_a);
+        kernels::copy(b, &mut c.row_b);
+        kernels::composite_row(op, &c.row_a, &c.row_b, &mut c.factor_a, &mut c.factor_b, dst);
+    }
+}
+
+fn arithmetic(c: &mut Canvas) {
+    let row = 4 * c.side;
+    for ((a, b), dst) in c.a.chunks_exact(row).zip(c.b.chunks_exact(row)).zip(c.out.chunks_exact_mut(row)) {
+        kernels::copy(a, &mut c.row_a);
+        kernels::copy(b, &mut c.row_b);
+        kernels::combine_row(HALF, &c.products, &c.row_a, &c.row_b, dst);
+    }
+}
+
+fn saturate(c: &mut Canvas) {
+    for (src, dst) in c.a.chunks_exact(4 * c.side).zip(c.out.chunks_exact_mut(4 * c.side)) {
+        kernels::copy(src, &mut c.row_a);
+        kernels::saturate_row(SATURATION, &c.weights, &c.inverse, &c.row_a, dst);
+    }
+}
+
+fn luminance(c: &mut Canvas) {
+    for (src, dst) in c.a.chunks_exact(4 * c.side).zip(c.out.chunks_exact_mut(4 * c.side)) {
+        kernels::copy(src, &mut c.row_a);
+        kernels::luminance_row(&c.luminance, &c.inverse, &c.row_a, dst);
+    }
+}
+
+/// Three passes along rows, eight rows at a time, then three down. The result is the second picture of `pair`.
+fn blur(c: &mut Canvas, d: usize) {
+    let (side, row) = (c.side, 4 * c.side);
+    let across = c.a.chunks_exact(8 * row).zip(c.pair.chunks_exact_mut(8 * row));
+    for (src, dst) in across {
+        for (i, line) in src.chunks_exact(row).enumerate() {
+            kernels::spread(line, &mut c.tile, 4 * i);
+        }
+        kernels::blur_lines(&mut c.tile, 32, side, d, &mut c.sums);
+        for (i, line) in dst.chunks_exact_mut(row).enumerate() {
+            kernels::gather(&c.tile, 32 * side + 4 * i, line);
+        }
+    }
+    kernels::blur_lines(&mut c.pair, row, side, d, &mut c.sums);
+}
+
+/// Along each row, then down the picture. The result is one of the pictures of `pair`.
+fn extreme(c: &mut Canvas, largest: bool, r: usize) {
+    let (side, row) = (c.side, 4 * c.side);
+    for (src, dst) in c.a.chunks_exact(row).zip(c.pair.chunks_exact_mut(row)) {
+        kernels::copy(src, &mut c.two_rows[..row]);
+        let at = kernels::extreme_lines(largest, &mut c.two_rows, 4, side, r);
+        kernels::copy(&c.two_rows[at..at + row], dst);
+    }
+    black_box(kernels::extreme_lines(largest, &mut c.pair, row, side, r));
+}
+
+/// The steps in the order of the table.
+pub fn all() -> Vec<Step> {
+    let mut steps = vec![
+        step("copy", 1.2, |c| rows(c, kernels::copy)),
+        step("offset", 1.2, |c| rows(c, |src, dst| kernels::shift_row(src, 37, dst))),
+        step("alpha of the source", None, |c| rows(c, kernels::alpha_row)),
+        step("clear", 0.7, |c| rows(c, |_, dst| kernels::clear(dst))),
+        step("fill", 0.7, |c| rows(c, |_, dst| kernels::fill(dst, [10, 20, 30, 40]))),
+        step("scan", 1.2, |c| assert!(kernels::first_invalid(&c.a, c.side, c.side) == c.side * c.side)),
+    ];
+    for (op, (name, target)) in [("over", 3.5), ("in", 2.5), ("out", 2.5), ("atop", 4.0), ("xor", 4.0)].into_iter().enumerate() {
+        steps.push(step(name, target, move |c| composite(c, op as u8)));
+    }
+    steps.push(step("arithmetic", 14.0, arithmetic));
+    steps.push(step("matrix (saturate)", 16.0, saturate));
+    steps.push(step("luminance to alpha", 7.0, luminance));
+    for d in [3, 10, 60] {
+        steps.push(step(format!("blur, d = {d}"), 16.0, move |c| blur(c, d)));
+    }
+    for (name, largest) in [("erode", false), ("dilate", true)] {
+        for (r, target) in [(1, 4.0), (8, 7.0), (64, 10.0)] {
+            steps.push(step(format!("{name}, r = {r}"), target, move |c| extreme(c, largest, r)));
+        }
+    }
+    steps
+}
