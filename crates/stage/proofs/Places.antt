@@ -10,7 +10,7 @@ use lib.ListN.{length, getD, take, drop}
 use lib.Seq.{getD-take, getD-drop}
 use Rattle.pixel.specs.declared.Pixel.{Pixel}
 use Rattle.pixel.specs.Bytes.{pixelAt, Painted}
-use Rattle.raster.specs.Row.{alphaOf}
+use Rattle.raster.specs.Row.{alphaOnly}
 use Rattle.raster.proofs.Painting.{painted-as, pixel-same}
 use Rattle.filter.specs.declared.Input.{Input}
 use Rattle.filter.specs.declared.Input.the-variants.{Source, SourceAlpha, Layer}
@@ -52,11 +52,11 @@ module _ (w h : ℕ) (src ws : List ℕ) (y from to : ℕ) (row row′ : List �
       ap (λ (k : ℕ). pixelAt src (4 * k)) e ∙ read-place w h 0 src (from + j) y (omega arith) high ∙ ap (λ (o : ℕ). read w h src o (from + j) y) (zero-mul (size w h))) P)
 
   pub loaded-alpha : (at : ℕ) (i : Input) → i ≡ SourceAlpha → at ≡ placeOf w h 0 y + from
-      → Painted (λ j. alphaOf (pixelAt src (4 * (at + j)))) 0 0 (to - from) row row′ → Loaded (stands w h src ws i) y from to row row′
+      → Painted (λ j. alphaOnly (pixelAt src (4 * (at + j)))) 0 0 (to - from) row row′ → Loaded (stands w h src ws i) y from to row row′
   unfolding stands
   loaded-alpha at i ei ea P = rw ei (painted-as _ _ 0 0 (to - from) row row′ (λ j l m.
       let e : at + j ≡ placeOf w h 0 y + (from + j) = omega arith in
-      ap (λ (k : ℕ). alphaOf (pixelAt src (4 * k))) e ∙ ap alphaOf (read-place w h 0 src (from + j) y (omega arith) high ∙ ap (λ (o : ℕ). read w h src o (from + j) y) (zero-mul (size w h)))) P)
+      ap (λ (k : ℕ). alphaOnly (pixelAt src (4 * k))) e ∙ ap alphaOnly (read-place w h 0 src (from + j) y (omega arith) high ∙ ap (λ (o : ℕ). read w h src o (from + j) y) (zero-mul (size w h)))) P)
 
   pub loaded-layer : (k at : ℕ) (i : Input) → i ≡ Layer k → at ≡ placeOf w h k y + from
       → Painted (λ x. pixelAt ws (4 * (at + (x - 0)))) 0 0 (to - from) row row′ → Loaded (stands w h src ws i) y from to row row′

@@ -4,7 +4,7 @@ use mathlib.Core.Path.{ap, _∙_}
 use native.Mathlib.Omega.{arith}
 use lib.ListN.{getD}
 use lib.Seq.{getD-take, getD-drop}
-use Rattle.raster.specs.Row.{alphaOf}
+use Rattle.raster.specs.Row.{alphaOnly}
 use Rattle.raster.proofs.Painting.{painted-as}
 use Rattle.stage.proofs.Places.{pixel-part}
 use borrow.Author.Needs.{needs}
@@ -38,7 +38,7 @@ same-length c = search needs
 returns : tie.Need-returns
 returns c =
     let a = c .before .before .before .before .before .before .before .args in
-    painted-as _ _ _ _ _ _ _ (λ j l m. ap alphaOf (pixel-part (a .src .now) (4 * a .at) (4 * a .at + 4 * a .count - 4 * a .at) (4 * j) (4 * (a .at + j)) (omega arith) (omega arith))) (c .before .before .alpha-row .ensures)
+    painted-as _ _ _ _ _ _ _ (λ j l m. ap alphaOnly (pixel-part (a .src .now) (4 * a .at) (4 * a .at + 4 * a .count - 4 * a .at) (4 * j) (4 * (a .at + j)) (omega arith) (omega arith))) (c .before .before .alpha-row .ensures)
 
 pub alpha-part-spec : {M : Type 1} → statement M
 alpha-part-spec =
