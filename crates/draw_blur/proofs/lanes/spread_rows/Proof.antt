@@ -1,0 +1,85 @@
+-- `draw_blur::lanes::spread_rows` meets its contract: each turn fills one lane. Assumes nothing.
+use Prim.Native.Nat.{ℕ, _+_, _-_, _*_, _≤_, _<_}
+use mathlib.Core.Path.{_≡_, _∙_}
+use native.Mathlib.Omega.{arith}
+use borrow.Author.Needs.{needs}
+use lib.ListN.{length}
+use Rattle.stage.specs.Buffers.{stands}
+use Rattle.draw_blur.specs.Lanes.{Lanes}
+use Rattle.draw_blur.proofs.Turning.{lanes-none, lanes-more}
+use Rattle.draw_blur.proofs.lanes.spread_rows.Statement.{statement}
+use Rattle.draw_blur.proofs.lanes.spread_rows.Tie as tie
+
+abbrev Inv-loop : tie.InvT-loop
+Inv-loop workspace source w h n input y count from to lines₀ row₀ k₀ lines row k =
+    (k ≤ count) × (length lines ≡ length lines₀) × (length row ≡ length row₀) × Lanes (stands w h source workspace input) 0 from from to y k lines
+
+abbrev μ-loop : tie.MeasureT-loop
+μ-loop workspace source w h n input y count from to lines₀ row₀ k₀ lines row k = count - k
+
+loop-holds : tie.Need-loop-holds Inv-loop μ-loop
+loop-holds c = (omega arith, omega arith, omega arith, lanes-none _ _ _ _ _ _ _)
+
+add-load : tie.Need-add-load Inv-loop μ-loop
+add-load c = search needs
+
+load-requires : tie.Need-load-requires Inv-loop μ-loop
+load-requires c κs =
+    let s = c .before .before .before .before .before .before .before in
+    (s .pre .0 .0, (omega arith, omega arith, omega arith, s .pre .0 .1, omega (arith, s .pre .0 .0 .wide, c .before .before .loop .inv .2, s .pre .1 .1)))
+
+mul-spread : tie.Need-mul-spread Inv-loop μ-loop
+mul-spread c = search needs
+
+sub-spread : tie.Need-sub-spread Inv-loop μ-loop
+sub-spread c = search needs
+
+spread-requires : tie.Need-spread-requires Inv-loop μ-loop
+spread-requires c κs =
+    let s = c .before .before .before .before .before .before .before .before .before .before .before .before in
+    let L = c .before .before .before .before .before .before .before .loop in
+    (omega (arith, s .pre .0 .0 .wide, c .before .before .before .before .load .ensures .long, L .inv .2, s .pre .1 .1), omega (arith, s .pre .0 .0 .wide, L .inv .1, s .pre .1 .0))
+
+add-k : tie.Need-add-k Inv-loop μ-loop
+add-k c = search needs
+
+loop-less : tie.Need-loop-less Inv-loop μ-loop
+loop-less c = search needs
+
+loop-again : tie.Need-loop-again Inv-loop μ-loop
+loop-again c =
+    let L = c .before .before .before .before .before .before .before .before .before .before .loop in
+    let G = c .before .before .before .before .before .before .before .load .ensures in
+    let R = c .before .before .spread .ensures in
+    (omega arith, R .long ∙ L .inv .1, G .long ∙ L .inv .2, lanes-more _ _ _ _ _ _ _ _ _ (omega arith) (L .inv .3) G R)
+
+same-length : tie.Need-same-length Inv-loop μ-loop
+same-length c = c .before .loop .inv .1
+
+same-length-2 : tie.Need-same-length-2 Inv-loop μ-loop
+same-length-2 c = c .before .loop .inv .2
+
+returns : tie.Need-returns Inv-loop μ-loop
+returns c =
+    let L = c .before .loop in
+    let e : L .k ≡ c .before .before .before .before .before .before .args .count = omega arith in
+    rw e at (L .inv .3)
+
+pub spread-rows-spec : {M : Type 1} → statement M
+spread-rows-spec =
+    tie.close
+    (tie.spec
+    Inv-loop
+    μ-loop
+    loop-holds
+    add-load
+    load-requires
+    mul-spread
+    sub-spread
+    spread-requires
+    add-k
+    loop-less
+    loop-again
+    same-length
+    same-length-2
+    returns)

@@ -1,0 +1,19 @@
+-- Rows side by side in lines of 32 bytes: a line has a pixel of each of eight rows, its lanes. Only the code needs these definitions: no
+-- promise to a caller cites them. Assumes nothing.
+use Prim.Native.Nat.{ℕ, _+_, _-_, _*_, _≤_, _<_}
+use mathlib.Core.Path.{_≡_}
+use mathlib.Core.List.{List}
+use lib.ListN.{length, getD}
+use Rattle.pixel.specs.Bytes.{pixelAt}
+use Rattle.filter.specs.Picture.{Picture}
+
+-- the lines from the index o on, of which the first stands for column lo, hold the columns from .. to - 1 of count rows from y on
+pub record Lanes (p : Picture) (o lo from to y count : ℕ) (d : List ℕ) : Type 0 where
+  pub same : (x k : ℕ) → from ≤ x → x < to → k < count → pixelAt d (o + (x - lo) * 32 + 4 * k) ≡ p x (y + k)
+
+-- d′ is d with count rows of width pixels from the pixel `at` on, row k being lane k of the lines of s from the index o on; what lies
+-- before them is left
+pub record Gathered (s : List ℕ) (o at width count : ℕ) (d d′ : List ℕ) : Type 0 where
+  pub inside : (k j : ℕ) → k < count → j < width → pixelAt d′ (4 * (at + k * width + j)) ≡ pixelAt s (o + j * 32 + 4 * k)
+  pub before : (i : ℕ) → i < 4 * at → getD d′ i 0 ≡ getD d i 0
+  pub long : length d′ ≡ length d

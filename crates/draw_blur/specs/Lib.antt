@@ -1,0 +1,3 @@
+-- A blur inside a rectangle: definitions that only the code needs; no promise to a caller cites them.
+pub mod Blurs
+pub mod Lanes

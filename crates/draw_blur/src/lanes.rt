@@ -1,0 +1,45 @@
+ghost use mathlib.Core.Path.{_≡_};
+ghost use mathlib.Core.Bool.{true};
+ghost use Prim.Native.Nat.{_+_, _-_, _*_, _≤_, _<_};
+ghost use lib.ListN.{length};
+ghost use Rattle.filter.specs.Checks.{allowed?};
+ghost use Rattle.stage.specs.Buffers.{stands, Sized};
+ghost use Rattle.draw_blur.specs.Lanes.{Lanes, Gathered};
+use filter::Input;
+use raster_blur::rows::copy_rows;
+use raster_blur::rows::spread;
+
+// The pixels from `from` up to `to` of the rows y .. y + count - 1 of an input, as lanes of the lines at the start of `lines`.
+pub fn spread_rows(
+    workspace: &[u8],
+    source: &[u8],
+    w: usize,
+    h: usize,
+    n: usize,
+    input: Input,
+    y: usize,
+    count: usize,
+    from: usize,
+    to: usize,
+    lines: &mut [u8],
+    row: &mut [u8],
+)
+    requires { ⌜ Sized w h n (now source) (now workspace) × (allowed? n input ≡ true) × (y + count ≤ h) × (count ≤ 8) × (from ≤ to) × (to ≤ w) ⌝ }
+    requires { ⌜ (length (now lines) ≡ 65536) × (length (now row) ≡ 4096) ⌝ }
+    ensures { λ _. ⌜ Lanes (stands w h (now (source .entry)) (now (workspace .entry)) input) 0 from from to y count (now (lines .exit)) ⌝ }
+{
+    for k in 0..count {
+        stage::load(workspace, source, w, h, n, input, y + k, from, to, row);
+        spread(&row[..], lines, 4 * k, to - from);
+    }
+}
+
+// And back: of the lines from the index o on, lane k goes to the k-th row of width pixels from the pixel `at` on.
+pub fn gather_rows(lines: &[u8], o: usize, dst: &mut [u8], at: usize, width: usize, count: usize)
+    requires { ⌜ (o + 32 * width ≤ length (now lines)) × (count ≤ 8) × (4 * (at + count * width) ≤ length (now dst)) ⌝ }
+    ensures { λ _. ⌜ Gathered (now (lines .entry)) o at width count (now (dst .entry)) (now (dst .exit)) ⌝ }
+{
+    for k in 0..count {
+        copy_rows(lines, o + 4 * k, 32, dst, 4 * (at + k * width), 4, 4, width);
+    }
+}

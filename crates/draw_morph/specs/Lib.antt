@@ -1,0 +1,2 @@
+-- Erode and dilate inside a rectangle.
+pub mod Morphology
