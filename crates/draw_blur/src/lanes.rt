@@ -5,11 +5,12 @@ ghost use lib.ListN.{length};
 ghost use Rattle.filter.specs.Checks.{allowed?};
 ghost use Rattle.stage.specs.Buffers.{stands, Sized};
 ghost use Rattle.draw_blur.specs.Lanes.{Lanes, Gathered};
+use draw_window::Span;
 use filter::Input;
 use raster_blur::rows::copy_rows;
 use raster_blur::rows::spread;
 
-// The pixels from `from` up to `to` of the rows y .. y + count - 1 of an input, as lanes of the lines at the start of `lines`.
+// A span of the rows y .. y + count - 1 of an input, as lanes of the lines at the start of `lines`.
 pub fn spread_rows(
     workspace: &[u8],
     source: &[u8],
@@ -19,18 +20,19 @@ pub fn spread_rows(
     input: Input,
     y: usize,
     count: usize,
-    from: usize,
-    to: usize,
+    span: Span,
     lines: &mut [u8],
-    row: &mut [u8],
 )
-    requires { ⌜ Sized w h n (now source) (now workspace) × (allowed? n input ≡ true) × (y + count ≤ h) × (count ≤ 8) × (from ≤ to) × (to ≤ w) ⌝ }
-    requires { ⌜ (length (now lines) ≡ 65536) × (length (now row) ≡ 4096) ⌝ }
-    ensures { λ _. ⌜ Lanes (stands w h (now (source .entry)) (now (workspace .entry)) input) 0 from from to y count (now (lines .exit)) ⌝ }
+    requires { ⌜ Sized w h n (now source) (now workspace) × (allowed? n input ≡ true) × (y + count ≤ h) × (count ≤ 8) ⌝ }
+    requires { ⌜ (span .from ≤ span .to) × (span .to ≤ w) × (length (now lines) ≡ 65536) ⌝ }
+    ensures { λ _. ⌜ Lanes (stands w h (now (source .entry)) (now (workspace .entry)) input) 0 (span .from) (span .from) (span .to) y count (now (lines .exit)) ⌝ }
 {
+    let from = span.from;
+    let to = span.to;
+    let mut row = [0u8; 4096];
     for k in 0..count {
-        stage::load(workspace, source, w, h, n, input, y + k, from, to, row);
-        spread(&row[..], lines, 4 * k, to - from);
+        stage::load(workspace, source, w, h, n, input, y + k, from, to, &mut row);
+        spread(&row, lines, 4 * k, to - from);
     }
 }
 

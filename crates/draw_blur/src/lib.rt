@@ -19,6 +19,8 @@ use draw_window::less;
 use draw_window::reached;
 use filter::Input;
 use filter::Rect;
+use lanes::gather_rows;
+use lanes::spread_rows;
 use window::lesser;
 
 pub mod lanes; // eight rows at a time, turned into lines of 32 bytes
@@ -78,37 +80,17 @@ fn blur_across(
     let width = right - left;
     let reach = reach_of(d);
     let span = reached(w, left, right, reach, reach);
-    let from = span.from;
-    let to = span.to;
-    let mut lines = [0u8; 65536];
-    let mut row = [0u8; 4096];
+    let places = span.to - span.from;
+    let skip = 32 * (left - span.from);
+    let mut tile = [0u8; 65536];
     let mut sums = [0u16; 32];
     let mut y = top;
     while y < bottom {
         let count = lesser(8, bottom - y);
-        lanes::spread_rows(
-            workspace,
-            source,
-            w,
-            h,
-            n,
-            input,
-            y,
-            count,
-            from,
-            to,
-            &mut lines,
-            &mut row,
-        );
-        let o = pass_lines(&mut lines, 32768, 32, to - from, d, &mut sums);
-        lanes::gather_rows(
-            &lines,
-            o + 32 * (left - from),
-            scratch,
-            (y - top) * width,
-            width,
-            count,
-        );
+        spread_rows(workspace, source, w, h, n, input, y, count, span, &mut tile);
+        let o = pass_lines(&mut tile, 32768, 32, places, d, &mut sums);
+        let at = (y - top) * width;
+        gather_rows(&tile, o + skip, scratch, at, width, count);
         y += count;
     }
 }
@@ -149,14 +131,14 @@ pub fn draw_blur(
         return;
     }
     let reach = reach_of(dy);
-    let rows = reached(h, rect.top, rect.bottom, reach, reach);
-    let strip = Rect {
+    let span = reached(h, rect.top, rect.bottom, reach, reach);
+    let rows = Rect {
         left: rect.left,
         right: rect.right,
-        top: rows.from,
-        bottom: rows.to,
+        top: span.from,
+        bottom: span.to,
     };
-    blur_across(&workspace[..], source, scratch, w, h, n, input, strip, dx);
-    let at = blur_down(scratch, w * h, strip, dy);
-    stage::store_rows(workspace, w, h, n, rect, &scratch[..], at, strip.top);
+    blur_across(&workspace[..], source, scratch, w, h, n, input, rows, dx);
+    let at = blur_down(scratch, w * h, rows, dy);
+    stage::store_rows(workspace, w, h, n, rect, &scratch[..], at, rows.top);
 }

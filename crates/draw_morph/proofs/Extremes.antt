@@ -15,7 +15,8 @@ use Rattle.filter.specs.Effect.{Env}
 use Rattle.filter.specs.Kinds.{radius, eroded, dilated, work}
 use Rattle.draw_window.specs.Passes.{acrossOf, downOf, Worked}
 use Rattle.draw_window.proofs.Rules.{Banded, fold-zeros, over-banded}
-use Rattle.draw_morph.specs.Morphology.{morphology, extremes}
+use Rattle.draw_morph.specs.Morphology.{morphology}
+use Rattle.draw_morph.specs.Extremes.{extremes}
 
 zeros : (op : Extreme) (k : ℕ) → fold (operation op) (start op) (k + 1) (λ t. 0) ≡ 0
 unfolding operation start fold

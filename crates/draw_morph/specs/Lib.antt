@@ -1,2 +1,3 @@
 -- Erode and dilate inside a rectangle.
 pub mod Morphology
+pub mod Extremes

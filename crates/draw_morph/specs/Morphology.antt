@@ -2,17 +2,11 @@
 use Prim.Native.Nat.{ℕ}
 use Rattle.raster_morph.specs.declared.Extreme.{Extreme}
 use Rattle.raster_morph.specs.declared.Extreme.the-variants.{Least, Largest}
-use Rattle.raster_morph.specs.Operation.{extreme}
 use Rattle.filter.specs.declared.Input.{Input}
 use Rattle.filter.specs.declared.Primitive.{Primitive}
 use Rattle.filter.specs.declared.Primitive.the-variants as P
-use Rattle.draw_window.specs.Passes.{Rule}
 
 -- the step that takes the smallest is erode, the one that takes the largest dilate
 unfoldable pub morphology : Extreme → Input → ℕ → ℕ → Primitive
 morphology Least i rx ry = P.Erode i rx ry
 morphology Largest i rx ry = P.Dilate i rx ry
-
--- the smallest or largest along a line, whatever its length; only the code needs this name
-unfoldable pub extremes : Extreme → ℕ → ℕ → Rule
-extremes op back ahead n f x = extreme op back ahead f x

@@ -12,7 +12,8 @@ ghost use Rattle.stage.specs.Buffers.{stands, Sized};
 ghost use Rattle.stage.specs.Drawn.{Drawn};
 ghost use Rattle.stage.specs.Strip.{Strip};
 ghost use Rattle.draw_window.specs.Passes.{acrossOf, alongRow, Worked};
-ghost use Rattle.draw_morph.specs.Morphology.{morphology, extremes};
+ghost use Rattle.draw_morph.specs.Morphology.{morphology};
+ghost use Rattle.draw_morph.specs.Extremes.{extremes};
 use draw_window::less;
 use draw_window::reached;
 use filter::Input;
@@ -116,7 +117,7 @@ pub fn draw_extreme(
 )
     requires { ⌜ Sized w h n (now source) (now workspace) × (length (now scratch) ≡ 2 * size w h) × (allowed? n input ≡ true) ⌝ }
     requires { ⌜ (rx ≤ 64) × (ry ≤ 64) × Within w h rect ⌝ }
-    ensures { λ _. ⌜ Drawn w h n rect (work w h (morphology op input rx ry) (stands w h (now (source .entry)) (now (workspace .entry)))) (now (workspace .entry)) (now (workspace .exit)) ⌝ }
+    ensures { λ _. ⌜ Drawn w h n rect (work w h (morphology op input rx ry) (stands w h (now (source .entry)) (now (workspace .entry)))) (now (workspace .entry)) (now (workspace .exit)) × (length (now (scratch .exit)) ≡ length (now (scratch .entry))) ⌝ }
 {
     if rect.right <= rect.left {
         return;
@@ -124,27 +125,16 @@ pub fn draw_extreme(
     if rect.bottom <= rect.top {
         return;
     }
-    let across = radius_window(rx);
+    let k = radius_window(rx);
     let down = radius_window(ry);
-    let rows = reached(h, rect.top, rect.bottom, down.back, down.ahead);
-    let strip = Rect {
+    let span = reached(h, rect.top, rect.bottom, down.back, down.ahead);
+    let rows = Rect {
         left: rect.left,
         right: rect.right,
-        top: rows.from,
-        bottom: rows.to,
+        top: span.from,
+        bottom: span.to,
     };
-    extreme_across(
-        op,
-        &workspace[..],
-        source,
-        scratch,
-        w,
-        h,
-        n,
-        input,
-        strip,
-        across,
-    );
-    let at = extreme_down(op, scratch, w * h, strip, down);
-    stage::store_rows(workspace, w, h, n, rect, &scratch[..], at, strip.top);
+    extreme_across(op, &workspace[..], source, scratch, w, h, n, input, rows, k);
+    let at = extreme_down(op, scratch, w * h, rows, down);
+    stage::store_rows(workspace, w, h, n, rect, &scratch[..], at, rows.top);
 }

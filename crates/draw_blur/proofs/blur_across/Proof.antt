@@ -1,8 +1,7 @@
 -- `draw_blur::blur_across` meets its contract: each turn adds up to eight rows to the strip. Assumes nothing.
 use Prim.Native.Nat.{ℕ, _+_, _-_, _*_, _≤_, _<_}
-use mathlib.Core.Path.{_≡_, refl, ap, _∙_}
+use mathlib.Core.Path.{_≡_, refl, _∙_}
 use mathlib.Core.Logic.{⊎-elim}
-use native.Mathlib.Nat.{mul-le-mul-right}
 use native.Mathlib.Omega.{arith}
 use borrow.Author.Needs.{needs}
 use lib.ListN.{length}
@@ -19,12 +18,12 @@ use Rattle.draw_blur.proofs.blur_across.Statement.{statement}
 use Rattle.draw_blur.proofs.blur_across.Tie as tie
 
 abbrev Inv-loop : tie.InvT-loop
-Inv-loop workspace source scratch₀ w h n input d left right top bottom width reach from to lines₀ row₀ sums₀ y₀ scratch lines row sums y =
-    (top ≤ y) × (y ≤ bottom) × (length lines ≡ 65536) × (length row ≡ 4096) × (length sums ≡ 32) × (length scratch ≡ length scratch₀)
+Inv-loop workspace source scratch₀ w h n input d left right top bottom width reach span places skip tile₀ sums₀ y₀ scratch tile sums y =
+    (top ≤ y) × (y ≤ bottom) × (length tile ≡ 65536) × (length sums ≡ 32) × (length scratch ≡ length scratch₀)
     × Strip (acrossOf (blurs d) w (stands w h source workspace input)) 0 left right top y scratch
 
 abbrev μ-loop : tie.MeasureT-loop
-μ-loop workspace source scratch₀ w h n input d left right top bottom width reach from to lines₀ row₀ sums₀ y₀ scratch lines row sums y = bottom - y
+μ-loop workspace source scratch₀ w h n input d left right top bottom width reach span places skip tile₀ sums₀ y₀ scratch tile sums y = bottom - y
 
 -- what holds of the span
 module _ (g : tie.After-reached Inv-loop μ-loop) where
@@ -36,20 +35,26 @@ module _ (g : tie.After-reached Inv-loop μ-loop) where
 
 -- what holds of the rows of a turn
 module _ (g : tie.After-lesser Inv-loop μ-loop) where
+  abbrev r : tie.After-reached Inv-loop μ-loop
+  r = g .before .before .before .before .before
+
   abbrev t : tie.Start Inv-loop μ-loop
-  t = g .before .before .before .before .before .before .before .before
+  t = s r
+
+  abbrev y : ℕ
+  y = g .before .before .loop .y
 
   few : g .lesser .result ≤ 8
   few = omega (arith, g .lesser .ensures)
 
-  fits : g .before .before .loop .y + g .lesser .result ≤ t .args .strip .bottom
+  fits : y + g .lesser .result ≤ t .args .strip .bottom
   fits = omega (arith, g .lesser .ensures, g .before .loop-test .taken)
 
-  room : 4 * ((g .before .before .loop .y - t .args .strip .top) * (t .args .strip .right - t .args .strip .left) + g .lesser .result * (t .args .strip .right - t .args .strip .left)) ≤ length (g .before .before .loop .scratch)
-  room = omega (arith, t .pre .1 .4, g .before .before .loop .inv .5, rows-room (g .before .before .loop .y) (t .args .strip .top) (t .args .strip .bottom) (g .lesser .result) (t .args .strip .right - t .args .strip .left) (g .before .before .loop .inv .0) fits)
+  room : 4 * ((y - t .args .strip .top) * (t .args .strip .right - t .args .strip .left) + g .lesser .result * (t .args .strip .right - t .args .strip .left)) ≤ length (g .before .before .loop .scratch)
+  room = omega (arith, t .pre .1 .4, g .before .before .loop .inv .4, rows-room y (t .args .strip .top) (t .args .strip .bottom) (g .lesser .result) (t .args .strip .right - t .args .strip .left) (g .before .before .loop .inv .0) fits)
 
-  small : (g .before .before .loop .y - t .args .strip .top) * (t .args .strip .right - t .args .strip .left) ≤ 1048576
-  small = omega (arith, strip-area (t .args .w) (t .args .h) (t .args .strip .left) (t .args .strip .right) (t .args .strip .top) (g .before .before .loop .y) (t .pre .1 .1) (omega (arith, fits, t .pre .1 .3)), area-le (t .args .w) (t .args .h) (t .pre .0 .0 .wide) (t .pre .0 .0 .high))
+  small : (y - t .args .strip .top) * (t .args .strip .right - t .args .strip .left) ≤ 1048576
+  small = omega (arith, strip-area (t .args .w) (t .args .h) (t .args .strip .left) (t .args .strip .right) (t .args .strip .top) y (t .pre .1 .1) (omega (arith, fits, t .pre .1 .3)), area-le (t .args .w) (t .args .h) (t .pre .0 .0 .wide) (t .pre .0 .0 .high))
 
 sub-width : tie.Need-sub-width Inv-loop μ-loop
 sub-width c = search needs
@@ -60,8 +65,17 @@ reach-of-requires c κs = search needs
 reached-requires : tie.Need-reached-requires Inv-loop μ-loop
 reached-requires c κs = search needs
 
+sub-places : tie.Need-sub-places Inv-loop μ-loop
+sub-places c = search needs
+
+sub-skip : tie.Need-sub-skip Inv-loop μ-loop
+sub-skip c = search needs
+
+mul-skip : tie.Need-mul-skip Inv-loop μ-loop
+mul-skip c = search needs
+
 loop-holds : tie.Need-loop-holds Inv-loop μ-loop
-loop-holds c = (omega arith, omega arith, search needs, search needs, search needs, refl, strip-none _ _ _ _ _ _)
+loop-holds c = (omega arith, omega arith, search needs, search needs, refl, strip-none _ _ _ _ _ _)
 
 sub-lesser : tie.Need-sub-lesser Inv-loop μ-loop
 sub-lesser c = search needs
@@ -72,71 +86,54 @@ lesser-requires c κs = search needs
 slice-aggregate-spread-rows : tie.Need-slice-aggregate-spread-rows Inv-loop μ-loop
 slice-aggregate-spread-rows c = search needs
 
-slice-aggregate-spread-rows-2 : tie.Need-slice-aggregate-spread-rows-2 Inv-loop μ-loop
-slice-aggregate-spread-rows-2 c = search needs
-
 spread-rows-requires : tie.Need-spread-rows-requires Inv-loop μ-loop
 spread-rows-requires c κs =
-    let g = c .before .before in
-    let s = t g in
-    let i = span (g .before .before .before) in (
-      (s .pre .0 .0, s .pre .0 .1, omega (arith, fits g, s .pre .1 .3), few g, omega (arith, i .0, i .1, s .pre .1 .0), i .2),
-      (g .before .before .loop .inv .2, g .before .before .loop .inv .3),
-    )
+    let g = c .before in
+    let i = span (r g) in
+    ((t g .pre .0 .0, t g .pre .0 .1, omega (arith, fits g, t g .pre .1 .3), few g), (omega (arith, i .0, i .1, t g .pre .1 .0), i .2, g .before .before .loop .inv .2))
 
 slice-aggregate-pass-lines : tie.Need-slice-aggregate-pass-lines Inv-loop μ-loop
 slice-aggregate-pass-lines c = search needs
-
-sub-pass-lines : tie.Need-sub-pass-lines Inv-loop μ-loop
-sub-pass-lines c = search needs
 
 slice-aggregate-pass-lines-2 : tie.Need-slice-aggregate-pass-lines-2 Inv-loop μ-loop
 slice-aggregate-pass-lines-2 c = search needs
 
 pass-lines-requires : tie.Need-pass-lines-requires Inv-loop μ-loop
 pass-lines-requires c κs =
-    let g = c .before .before .before .before .before .before .before in
-    let s = t g in
-    let i = span (g .before .before .before) in
-    (omega arith, omega (arith, i .2, s .pre .0 .0 .wide), omega (arith, g .before .before .loop .inv .4), omega (arith, i .2, s .pre .0 .0 .wide), s .pre .0 .2)
+    let g = c .before .before .before .before .before in
+    let i = span (r g) in
+    let w = t g .pre .0 .0 .wide in
+    (omega arith, omega (arith, i .2, w), omega (arith, g .before .before .loop .inv .3), omega (arith, i .2, w), t g .pre .0 .2)
+
+sub-at : tie.Need-sub-at Inv-loop μ-loop
+sub-at c = search needs
+
+mul-at : tie.Need-mul-at Inv-loop μ-loop
+mul-at c = omega (arith, small (c .before .before .before .before .before .before .before .before))
 
 slice-aggregate-gather-rows : tie.Need-slice-aggregate-gather-rows Inv-loop μ-loop
 slice-aggregate-gather-rows c = search needs
 
-sub-gather-rows : tie.Need-sub-gather-rows Inv-loop μ-loop
-sub-gather-rows c = search needs
-
-mul-gather-rows : tie.Need-mul-gather-rows Inv-loop μ-loop
-mul-gather-rows c = search needs
-
 add-gather-rows : tie.Need-add-gather-rows Inv-loop μ-loop
 add-gather-rows c =
     let p = c .before .before .before in
-    let i = span (p .before .before .before .before .before .before .before .before .before .before .before) in
-    let w = t (p .before .before .before .before .before .before .before .before) .pre .0 .0 .wide in
-    let l = t (p .before .before .before .before .before .before .before .before) .pre .1 .0 in
+    let g = p .before .before .before .before .before .before in
+    let i = span (r g) in
+    let w = t g .pre .0 .0 .wide in
+    let l = t g .pre .1 .0 in
     ⊎-elim (λ e. omega (arith, e, i .1, i .2, w, l)) (λ e. omega (arith, e, i .1, i .2, w, l)) (p .pass-lines .ensures .1)
-
-sub-gather-rows-2 : tie.Need-sub-gather-rows-2 Inv-loop μ-loop
-sub-gather-rows-2 c = search needs
-
-mul-gather-rows-2 : tie.Need-mul-gather-rows-2 Inv-loop μ-loop
-mul-gather-rows-2 c = omega (arith, small (c .before .before .before .before .before .before .before .before .before .before .before .before))
 
 gather-rows-requires : tie.Need-gather-rows-requires Inv-loop μ-loop
 gather-rows-requires c κs =
     let p = c .before .before .before .before in
-    let g = p .before .before .before .before .before .before .before .before in
-    let s = t g in
-    let i = span (g .before .before .before) in (
-      ⊎-elim (λ e. omega (arith, e, i .0, i .1, i .2, s .pre .0 .0 .wide)) (λ e. omega (arith, e, i .0, i .1, i .2, s .pre .0 .0 .wide)) (p .pass-lines .ensures .1),
-      few g,
-      room g,
-    )
+    let g = p .before .before .before .before .before .before in
+    let i = span (r g) in
+    let w = t g .pre .0 .0 .wide in
+    (⊎-elim (λ e. omega (arith, e, i .0, i .1, i .2, w)) (λ e. omega (arith, e, i .0, i .1, i .2, w)) (p .pass-lines .ensures .1), few g, room g)
 
 add-y : tie.Need-add-y Inv-loop μ-loop
 add-y c =
-    let g = c .before .before .before .before .before .before .before .before .before .before .before .before .before .before .before in
+    let g = c .before .before .before .before .before .before .before .before .before .before .before .before .before in
     omega (arith, fits g, t g .pre .1 .3, t g .pre .0 .0 .high)
 
 loop-less : tie.Need-loop-less Inv-loop μ-loop
@@ -146,30 +143,28 @@ loop-again : tie.Need-loop-again Inv-loop μ-loop
 loop-again c =
     let G = c .before .before .gather-rows .ensures in
     let p = c .before .before .before .before .before .before .before in
-    let q = p .before .before .before .before .before in
-    let g = q .before .before .before in
+    let q = p .before .before .before .before in
+    let g = q .before .before in
     let L = g .before .before .loop in
-    let r = g .before .before .before in
     let a = t g .args in
-    let B = blurs-banded (a .d) _ (r .before .reach-of .ensures .0) in
-    let K = lanes-worked _ _ _ _ _ _ (stands-blank (a .w) (a .h) (a .source .now) (a .workspace .now) (a .input)) B _ _ _ _ _ _ _ _ _ (r .reached .ensures) (t g .pre .1 .1) (few g) (q .spread-rows .ensures) (p .pass-lines .ensures .0) in (
-      omega arith,
+    let B = blurs-banded (a .d) _ (r g .before .reach-of .ensures .0) in
+    let K = lanes-worked _ _ _ _ _ _ (stands-blank (a .w) (a .h) (a .source .now) (a .workspace .now) (a .input)) B _ _ _ _ _ _ _ _ _ (r g .reached .ensures) (t g .pre .1 .1) (few g) (q .spread-rows .ensures) (p .pass-lines .ensures .0) in (
+      omega (arith, L .inv .0),
       fits g,
       search needs,
-      search needs,
-      omega (arith, c .before .before .before .before .before .sums2 .given, L .inv .4),
-      G .long ∙ L .inv .5,
-      strip-gathered _ _ _ _ _ _ _ _ _ _ _ _ (span r .0) (L .inv .0) refl (L .inv .6) K G,
+      omega (arith, c .before .before .before .before .before .sums2 .given, L .inv .3),
+      G .long ∙ L .inv .4,
+      strip-gathered _ _ _ _ _ _ _ _ _ _ _ _ (span (r g) .0) (L .inv .0) refl (L .inv .5) K G,
     )
 
 same-length : tie.Need-same-length Inv-loop μ-loop
-same-length c = c .before .loop .inv .5
+same-length c = c .before .loop .inv .4
 
 returns : tie.Need-returns Inv-loop μ-loop
 returns c =
     let L = c .before .loop in
-    let e : L .y ≡ s (c .before .before) .args .strip .bottom = omega arith in
-    rw e at (L .inv .6)
+    let e : L .y ≡ s (c .before .before .before .before) .args .strip .bottom = omega arith in
+    rw e at (L .inv .5)
 
 pub blur-across-spec : {M : Type 1} → statement M
 blur-across-spec =
@@ -180,22 +175,21 @@ blur-across-spec =
     sub-width
     reach-of-requires
     reached-requires
+    sub-places
+    sub-skip
+    mul-skip
     loop-holds
     sub-lesser
     lesser-requires
     slice-aggregate-spread-rows
-    slice-aggregate-spread-rows-2
     spread-rows-requires
     slice-aggregate-pass-lines
-    sub-pass-lines
     slice-aggregate-pass-lines-2
     pass-lines-requires
+    sub-at
+    mul-at
     slice-aggregate-gather-rows
-    sub-gather-rows
-    mul-gather-rows
     add-gather-rows
-    sub-gather-rows-2
-    mul-gather-rows-2
     gather-rows-requires
     add-y
     loop-less

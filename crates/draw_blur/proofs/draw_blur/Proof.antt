@@ -46,7 +46,7 @@ blur-across-requires : tie.Need-blur-across-requires
 blur-across-requires c κs =
     let g = c .before .before in
     let i = inner g in (
-      (s g .pre .0 .0, s g .pre .0 .2, s g .pre .1 .0),
+      (s g .pre .0 .0, s g .pre .0 .2, omega (arith, s g .pre .1 .0, s g .pre .1 .1)),
       (wide g, s g .pre .1 .2 .right, omega (arith, i .0, i .1, high g), i .2, omega (arith, area g (g .reached .result .to) (i .2), s g .pre .0 .1)),
     )
 
@@ -59,7 +59,7 @@ blur-down-requires : tie.Need-blur-down-requires
 blur-down-requires c κs =
     let g = c .before .before .before .before .before .before in
     let i = inner g in (
-      (omega (arith, s g .pre .0 .1), area-le (s g .args .w) (s g .args .h) (s g .pre .0 .0 .wide) (s g .pre .0 .0 .high), s g .pre .1 .1),
+      (omega (arith, s g .pre .0 .1), area-le (s g .args .w) (s g .args .h) (s g .pre .0 .0 .wide) (s g .pre .0 .0 .high), omega (arith, s g .pre .1 .0, s g .pre .1 .1)),
       (wide g, omega (arith, s g .pre .1 .2 .right, s g .pre .0 .0 .wide), omega (arith, i .0, i .1, high g), omega (arith, i .2, s g .pre .0 .0 .high), area g (g .reached .result .to) (i .2)),
     )
 

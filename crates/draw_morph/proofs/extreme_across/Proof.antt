@@ -10,7 +10,7 @@ use Rattle.stage.proofs.Read.{stands-blank}
 use Rattle.draw_window.specs.Passes.{acrossOf}
 use Rattle.draw_window.proofs.Strips.{strip-none, strip-painted, row-room}
 use Rattle.draw_window.proofs.Bands.{band-row}
-use Rattle.draw_morph.specs.Morphology.{extremes}
+use Rattle.draw_morph.specs.Extremes.{extremes}
 use Rattle.draw_morph.proofs.Extremes.{extremes-banded}
 use Rattle.draw_morph.proofs.extreme_across.Statement.{statement}
 use Rattle.draw_morph.proofs.extreme_across.Tie as tie

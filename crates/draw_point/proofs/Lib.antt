@@ -1,0 +1,6 @@
+-- Laws of rows that are drawn.
+pub mod Strokes
+pub mod Shifts
+pub mod Stacks
+pub mod Coefficients
+pub mod Steps

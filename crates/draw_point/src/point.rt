@@ -1,0 +1,165 @@
+// The kinds that work a pixel from the pixels at its own place: one row of each.
+ghost use mathlib.Core.Path.{_≡_};
+ghost use Prim.Native.Nat.{_+_, _-_, _*_, _≤_, _<_};
+ghost use lib.ListN.{length};
+ghost use Rattle.pixel.specs.Bytes.{Painted};
+ghost use Rattle.raster_color.specs.Tables.{Combines, Mixes, Weighs, Unpremultiplies};
+ghost use Rattle.filter.specs.declared.Primitive.the-variants as P;
+ghost use Rattle.filter.specs.Kinds.{work};
+ghost use Rattle.filter.specs.Bytes.{size};
+ghost use Rattle.stage.specs.Buffers.{stands, rowAt};
+ghost use Rattle.draw_point.specs.Row.{Drawable, Span};
+use filter::Input;
+use pixel::Arithmetic;
+use pixel::Matrix;
+use pixel::Operator;
+use pixel::Pixel;
+
+// The index in the workspace of the pixel x of row y of layer n.
+pub fn start(w: usize, h: usize, n: usize, y: usize, x: usize) -> usize
+    requires { ⌜ (w ≤ 1024) × (h ≤ 1024) × (n < 16) × (y < h) × (x ≤ w) ⌝ }
+    ensures { λ r. ⌜ (r ≡ rowAt w h n y + 4 * x) × (r + 4 * (w - x) ≤ n * size w h + size w h) × (r ≤ 67108864) ⌝ }
+{
+    4 * (stage::place(w, h, n, y) + x)
+}
+
+pub fn paint_flood(
+    workspace: &mut [u8],
+    w: usize,
+    h: usize,
+    n: usize,
+    p: Pixel,
+    y: usize,
+    from: usize,
+    to: usize,
+)
+    requires { ⌜ (w ≤ 1024) × (h ≤ 1024) × (n < 16) × (n * size w h + size w h ≤ length (now workspace)) × Span w h y from to ⌝ }
+    ensures { λ _. ⌜ Painted (λ x. p) (rowAt w h n y) from to (now (workspace .entry)) (now (workspace .exit)) ⌝ }
+{
+    let count = to - from;
+    let lo = start(w, h, n, y, from);
+    let hi = lo + 4 * count;
+    raster::row::fill(&mut workspace[lo..hi], count, p);
+}
+
+pub fn paint_composite(
+    workspace: &mut [u8],
+    source: &[u8],
+    w: usize,
+    h: usize,
+    n: usize,
+    op: Operator,
+    i: Input,
+    j: Input,
+    y: usize,
+    from: usize,
+    to: usize,
+    a: &mut [u8],
+    b: &mut [u8],
+    f: &mut [u8],
+    g: &mut [u8],
+)
+    requires { ⌜ Drawable w h n (now source) (now workspace) (P.Composite op i j) × Span w h y from to ⌝ }
+    requires { ⌜ (length (now a) ≡ 4 * (to - from)) × (length (now b) ≡ 4 * (to - from)) × (length (now f) ≡ 4 * (to - from)) × (length (now g) ≡ 4 * (to - from)) ⌝ }
+    ensures { λ _. ⌜ Painted (λ x. work w h (P.Composite op i j) (stands w h (now (source .entry)) (now (workspace .entry))) x y) (rowAt w h n y) from to (now (workspace .entry)) (now (workspace .exit)) ⌝ }
+{
+    let count = to - from;
+    let lo = start(w, h, n, y, from);
+    let hi = lo + 4 * count;
+    stage::load(&workspace[..], source, w, h, n, i, y, from, to, a);
+    stage::load(&workspace[..], source, w, h, n, j, y, from, to, b);
+    raster::composite::composite_row(op, &a[..], &b[..], f, g, &mut workspace[lo..hi], count);
+}
+
+pub fn paint_combine(
+    workspace: &mut [u8],
+    source: &[u8],
+    w: usize,
+    h: usize,
+    n: usize,
+    coefficients: Arithmetic,
+    i: Input,
+    j: Input,
+    y: usize,
+    from: usize,
+    to: usize,
+    sums: &[u8],
+    a: &mut [u8],
+    b: &mut [u8],
+)
+    requires { ⌜ Drawable w h n (now source) (now workspace) (P.Combine coefficients i j) × Span w h y from to ⌝ }
+    requires { ⌜ Combines coefficients (now sums) × (length (now a) ≡ 4 * (to - from)) × (length (now b) ≡ 4 * (to - from)) ⌝ }
+    ensures { λ _. ⌜ Painted (λ x. work w h (P.Combine coefficients i j) (stands w h (now (source .entry)) (now (workspace .entry))) x y) (rowAt w h n y) from to (now (workspace .entry)) (now (workspace .exit)) ⌝ }
+{
+    let count = to - from;
+    let lo = start(w, h, n, y, from);
+    let hi = lo + 4 * count;
+    stage::load(&workspace[..], source, w, h, n, i, y, from, to, a);
+    stage::load(&workspace[..], source, w, h, n, j, y, from, to, b);
+    raster_color::arithmetic::combine_row(
+        coefficients,
+        sums,
+        &a[..],
+        &b[..],
+        &mut workspace[lo..hi],
+        count,
+    );
+}
+
+pub fn paint_transform(
+    workspace: &mut [u8],
+    source: &[u8],
+    w: usize,
+    h: usize,
+    n: usize,
+    i: Input,
+    matrix: Matrix,
+    y: usize,
+    from: usize,
+    to: usize,
+    products: &[u64],
+    inverse: &[u32],
+    a: &mut [u8],
+)
+    requires { ⌜ Drawable w h n (now source) (now workspace) (P.Transform i matrix) × Span w h y from to ⌝ }
+    requires { ⌜ Mixes matrix (now products) × Unpremultiplies (now inverse) × (length (now a) ≡ 4 * (to - from)) ⌝ }
+    ensures { λ _. ⌜ Painted (λ x. work w h (P.Transform i matrix) (stands w h (now (source .entry)) (now (workspace .entry))) x y) (rowAt w h n y) from to (now (workspace .entry)) (now (workspace .exit)) ⌝ }
+{
+    let count = to - from;
+    let lo = start(w, h, n, y, from);
+    let hi = lo + 4 * count;
+    stage::load(&workspace[..], source, w, h, n, i, y, from, to, a);
+    raster_color::matrix::matrix_row(
+        matrix,
+        products,
+        inverse,
+        &a[..],
+        &mut workspace[lo..hi],
+        count,
+    );
+}
+
+pub fn paint_luminance(
+    workspace: &mut [u8],
+    source: &[u8],
+    w: usize,
+    h: usize,
+    n: usize,
+    i: Input,
+    y: usize,
+    from: usize,
+    to: usize,
+    luma: &[u32],
+    inverse: &[u32],
+    a: &mut [u8],
+)
+    requires { ⌜ Drawable w h n (now source) (now workspace) (P.Luminance i) × Span w h y from to ⌝ }
+    requires { ⌜ Weighs (now luma) × Unpremultiplies (now inverse) × (length (now a) ≡ 4 * (to - from)) ⌝ }
+    ensures { λ _. ⌜ Painted (λ x. work w h (P.Luminance i) (stands w h (now (source .entry)) (now (workspace .entry))) x y) (rowAt w h n y) from to (now (workspace .entry)) (now (workspace .exit)) ⌝ }
+{
+    let count = to - from;
+    let lo = start(w, h, n, y, from);
+    let hi = lo + 4 * count;
+    stage::load(&workspace[..], source, w, h, n, i, y, from, to, a);
+    raster_color::luminance::luminance_row(luma, inverse, &a[..], &mut workspace[lo..hi], count);
+}
