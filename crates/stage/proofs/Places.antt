@@ -17,7 +17,7 @@ use Rattle.filter.specs.declared.Input.the-variants.{Source, SourceAlpha, Layer
 use Rattle.filter.specs.Checks.{allowed?}
 use Rattle.filter.specs.Bytes.{size, read}
 use Rattle.stage.specs.Buffers.{stands, placeOf, rowAt, Loaded}
-use Rattle.stage.proofs.Read.{read-at}
+use Rattle.filter.proofs.Contents.{read-pixel}
 use Rattle.stage.proofs.Sizes.{below, row-ends}
 
 pub layer-bytes : (w h n : ℕ) → n * size w h ≡ 4 * (n * (w * h))
@@ -30,7 +30,7 @@ row-bytes w h n y = omega (arith, layer-bytes w h n)
 pub read-place : (w h k : ℕ) (d : List ℕ) (x y : ℕ) → x < w → y < h → pixelAt d (4 * (placeOf w h k y + x)) ≡ read w h d (k * size w h) x y
 read-place w h k d x y lx ly =
     let e : 4 * (placeOf w h k y + x) ≡ k * size w h + 4 * (y * w + x) = omega (arith, layer-bytes w h k) in
-    ap (pixelAt d) e ∙ sym (read-at w h d (k * size w h) x y lx ly)
+    ap (pixelAt d) e ∙ sym (read-pixel w h d (k * size w h) x y lx ly)
 
 -- pixels counted from p on
 pub painted-move : (f g : ℕ → Pixel) (p o from to : ℕ) (d d′ : List ℕ) → 4 * p ≡ o → ((x : ℕ) → from ≤ x → x < to → f (p + x) ≡ g x) → Painted f 0 (p + from) (p + to) d d′ → Painted g o from to d d′
