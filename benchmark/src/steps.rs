@@ -24,6 +24,14 @@ fn rows(c: &mut Canvas, work: impl Fn(&[u8], &mut [u8])) {
 fn composite(c: &mut Canvas, op: u8) {
     let row = 4 * c.side;
     for ((a, b), dst) in c.a.chunks_exact(row).zip(c.b.chunks_exact(row)).zip(c.out.chunks_exact_mut(row)) {
+        kernels::composite_row(op, a, b, &mut c.factor_a, &mut c.factor_b, dst);
+    }
+}
+
+/// The same as a step does it whose layers lie in one slice: its inputs' rows are copied first.
+fn composite_copied(c: &mut Canvas, op: u8) {
+    let row = 4 * c.side;
+    for ((a, b), dst) in c.a.chunks_exact(row).zip(c.b.chunks_exact(row)).zip(c.out.chunks_exact_mut(row)) {
         kernels::copy(a, &mut c.row_a);
         kernels::copy(b, &mut c.row_b);
         kernels::composite_row(op, &c.row_a, &c.row_b, &mut c.factor_a, &mut c.factor_b, dst);
@@ -92,6 +100,7 @@ pub fn all() -> Vec<Step> {
     ];
     for (op, (name, target)) in [("over", 3.5), ("in", 2.5), ("out", 2.5), ("atop", 4.0), ("xor", 4.0)].into_iter().enumerate() {
         steps.push(step(name, target, move |c| composite(c, op as u8)));
+        steps.push(step(format!("{name}, rows copied first"), None, move |c| composite_copied(c, op as u8)));
     }
     steps.push(step("arithmetic", 14.0, arithmetic));
     steps.push(step("matrix (saturate)", 16.0, saturate));
