@@ -1,0 +1,4 @@
+-- What the entry points promise.
+pub mod Promise
+pub mod View
+pub mod Ready
