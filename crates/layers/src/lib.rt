@@ -47,10 +47,11 @@ pub fn redraw_layers(
     let layers = sheet.count;
     let damages = plan::damage::damages(w, h, sheet, named);
     let rects = damages.rects;
+    let worked = damages.count;
     for n in 0..layers {
         let step = sheet.steps[n];
         let r = rects[n];
         steps::redraw_step(workspace, source, scratch, w, h, n, step, r);
     }
-    damages.count
+    worked
 }

@@ -17,13 +17,13 @@ use Rattle.layers.proofs.redraw_layers.Tie as tie
 
 -- the loop does not see the rectangle that was named: r is any that gives these rectangles
 abbrev Inv-loop : tie.InvT-loop
-Inv-loop workspace₀ source scratch₀ w h sheet layers damaged rects n₀ workspace scratch n =
+Inv-loop workspace₀ source scratch₀ w h sheet layers rects worked n₀ workspace scratch n =
     (n ≤ layers)
     × ((r : Rect) → ((k : ℕ) → getD rects k empty ≡ damages (canvasOf w h) (effectsOf w h (sheet .steps)) r layers (Layer k))
     → Redrawing w h (sheet .steps) layers r source workspace₀ scratch₀ n workspace scratch)
 
 abbrev μ-loop : tie.MeasureT-loop
-μ-loop workspace₀ source scratch₀ w h sheet layers damaged rects n₀ workspace scratch n = layers - n
+μ-loop workspace₀ source scratch₀ w h sheet layers rects worked n₀ workspace scratch n = layers - n
 
 damages-requires : tie.Need-damages-requires Inv-loop μ-loop
 damages-requires c κs = let s = c .before .before .before in (s .pre .0 .sheet, s .pre .2)
