@@ -13,7 +13,7 @@ use Rattle.filter.specs.Valid.{ValidPicture}
 use Rattle.filter.proofs.Concat.{bytes-hold}
 use Rattle.filter.proofs.Demand.{redraw-buffers, redraw-keeps}
 use Rattle.filter.specs.Answers.{accepted?}
-use Rattle.render.specs.Promise.{ifAccepted, layerBytes, Redraws, ValidLayers}
+use Rattle.render.specs.Promise.{ifAccepted, layerBytes, Redraws, AllValid}
 
 pub if-accepted : (a : Answer) (new old d : List ℕ) → accepted? a ≡ true → d ≡ new → d ≡ ifAccepted a new old
 if-accepted a new old d e f = rw e f
@@ -28,7 +28,7 @@ pub count-refused : (a : Answer) (n : ℕ) → accepted? a ≡ false → 0 ≡ c
 count-refused a n e = rw e
 
 -- valid pictures, so valid bytes
-pub holds-valid : (w h n : ℕ) (d : List ℕ) (p : ℕ → Picture) → Holds w h n d p → ((k : ℕ) → ValidPicture (p k)) → ValidLayers w h n d
+pub holds-valid : (w h n : ℕ) (d : List ℕ) (p : ℕ → Picture) → Holds w h n d p → ((k : ℕ) → ValidPicture (p k)) → AllValid w h n d
 holds-valid w h n d p H ok = record { valid = λ k x y lk lx ly. rw (H .same k x y lk lx ly) (ok k .valid x y) }
 
 -- demand 3

@@ -17,7 +17,7 @@ use Rattle.filter.specs.Checks.{sizesAnswer, rectangleAnswer, stepsAnswer, pixe
 use Rattle.filter.proofs.Refusals.{unless-accepted, else-accepted}
 use Rattle.filter.proofs.Scans.{scan-source, scan-layer}
 use Rattle.plan.proofs.Acceptance.{accepted-sizes, accepted-steps, accepted-rectangle}
-use Rattle.render.specs.Ready.{Ready, ValidLayers}
+use Rattle.layers.specs.Ready.{Ready, ValidLayers}
 
 -- 14 was not given
 scanned : (d : List ℕ) (n : ℕ) → accepted? (pixelsAnswer d n) ≡ true → firstInvalid d n ≡ n
@@ -34,7 +34,7 @@ module _ (w h : ℕ) (steps : List Step) (count : ℕ) (src ws scratch : List �
         sheet = record { canvas = k .canvas; some = k .some; few = k .few; each = accepted-steps w h steps count f };
         source = k .source-is;
         workspace = k .workspace-is;
-        scratch-is = k .scratch-is;
+        scratch = k .scratch-is;
         valid = scan-source w h src small (scanned src (w * h) g);
       }
 

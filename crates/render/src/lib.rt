@@ -1,7 +1,6 @@
 // The entry points: a sheet is drawn into buffers that the caller lends, whole or in part, and a layer is shown. None asks anything
 // beforehand: what cannot be drawn is refused with document 01's number and place, and a refusal changes no byte.
 mod checks;
-mod stub;
 pub mod views;
 
 use checks::check_redraw;
@@ -9,15 +8,15 @@ use checks::check_render;
 use filter::Answer;
 use filter::Region;
 use filter::Sheet;
+use layers::redraw_layers;
+use layers::render_layers;
 use plan::answers::is_accepted;
-use stub::redraw_layers;
-use stub::render_layers;
 ghost use mathlib.Core.Path.{_≡_};
 ghost use mathlib.Core.Bool.{true};
 ghost use lib.ListN.{length};
 ghost use Rattle.filter.specs.Answers.{accepted?};
 ghost use Rattle.filter.specs.Checks.{answerOf, render as rendering, redraw as redrawing};
-ghost use Rattle.render.specs.Promise.{ifAccepted, layerBytes, redrawnBytes, zeros, countOf, Redraws, ValidLayers};
+ghost use Rattle.render.specs.Promise.{ifAccepted, layerBytes, redrawnBytes, zeros, countOf, Redraws, AllValid};
 
 // The answer to a redraw, and how many pixels were worked.
 pub struct Redrawn {
@@ -43,7 +42,7 @@ pub fn render(
     ensures answers { λ a. ⌜ a ≡ answerOf width height (sheet .steps) (sheet .count) rendering (now (source .entry)) (now (workspace .entry)) (length (now (scratch .entry))) ⌝ }
     ensures layers { λ a. ⌜ now (workspace .exit) ≡ ifAccepted a (layerBytes width height (sheet .steps) (sheet .count) (now (source .entry))) (now (workspace .entry)) ⌝ }
     ensures cleared { λ a. ⌜ now (scratch .exit) ≡ ifAccepted a (zeros (now (scratch .entry))) (now (scratch .entry)) ⌝ }
-    ensures valid { λ a. ⌜ (accepted? a ≡ true → ValidLayers width height (sheet .count) (now (workspace .exit))) ⌝ }
+    ensures valid { λ a. ⌜ (accepted? a ≡ true → AllValid width height (sheet .count) (now (workspace .exit))) ⌝ }
 {
     let answer = check_render(width, height, sheet, source, &workspace[..], scratch.len());
     if is_accepted(answer) {
@@ -69,7 +68,7 @@ pub fn redraw(
     ensures layers { λ r. ⌜ now (workspace .exit) ≡ ifAccepted (r .answer) (redrawnBytes width height (sheet .steps) (sheet .count) named (now (workspace .entry)) (now (source .entry))) (now (workspace .entry)) ⌝ }
     ensures cleared { λ r. ⌜ now (scratch .exit) ≡ ifAccepted (r .answer) (zeros (now (scratch .entry))) (now (scratch .entry)) ⌝ }
     ensures redraws { λ r. ⌜ (accepted? (r .answer) ≡ true → Redraws width height (sheet .steps) (sheet .count) named (now (source .entry)) (now (workspace .entry)) (now (workspace .exit))) ⌝ }
-    ensures valid { λ r. ⌜ (accepted? (r .answer) ≡ true → ValidLayers width height (sheet .count) (now (workspace .exit))) ⌝ }
+    ensures valid { λ r. ⌜ (accepted? (r .answer) ≡ true → AllValid width height (sheet .count) (now (workspace .exit))) ⌝ }
 {
     let answer = check_redraw(
         width,
