@@ -1,0 +1,2 @@
+-- The pictures that steps leave in their layers.
+pub mod Regions

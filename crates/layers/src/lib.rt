@@ -1,0 +1,2 @@
+// The layers of a sheet, step after step.
+pub mod steps;
