@@ -47,7 +47,7 @@ pub fn render(
     let answer = check_render(width, height, sheet, source, &workspace[..], scratch.len());
     if is_accepted(answer) {
         render_layers(workspace, source, scratch, width, height, sheet);
-        raster::row::clear(scratch);
+        raster::row::clear(scratch); // "all zero after an accepted call"
         return answer;
     }
     answer
