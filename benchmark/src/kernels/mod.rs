@@ -1,4 +1,7 @@
 //! The names of crate `kernels`. A slice is a pointer and a length; the contracts stand in crates/kernels/src.
+mod canvas;
+mod steps;
+pub mod table;
 
 extern "C" {
     fn twillgoose_kernel_copy(src: *const u8, src_len: usize, dst: *mut u8, dst_len: usize);
