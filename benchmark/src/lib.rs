@@ -3,6 +3,7 @@ pub mod calls;
 pub mod clock;
 #[cfg(feature = "library")]
 pub mod kernels;
+pub mod others;
 pub mod picture;
 pub mod plain;
 pub mod turns;

@@ -1,6 +1,7 @@
 //! Prints the tables.
 use benchmark::calls::{library::Library, partial, whole};
 use benchmark::kernels;
+use benchmark::others;
 use benchmark::plain::Plain;
 use std::process::ExitCode;
 
@@ -13,7 +14,10 @@ fn tables() -> Result<(), String> {
     println!();
     whole::print(SIDE, &Library, &Plain)?;
     println!();
-    partial::print(SIDE, &Library, &Plain, &parts)
+    partial::print(SIDE, &Library, &Plain, &parts)?;
+    println!();
+    others::print(SIDE, &Library);
+    Ok(())
 }
 
 fn main() -> ExitCode {
