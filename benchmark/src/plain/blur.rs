@@ -22,6 +22,14 @@ impl Along for Blur {
         pass(spare, n, two, all, src, n, &mut sums);
         pass(src, n, three, wanted, dst, step, &mut sums);
     }
+
+    fn by_row(&self) -> bool {
+        self.0 < 2
+    }
+
+    fn row(&self, row: &[u8], wanted: Range<usize>, dst: &mut [u8]) {
+        dst.copy_from_slice(&row[4 * wanted.start..4 * wanted.end]);
+    }
 }
 
 /// How far each box reaches back and ahead.

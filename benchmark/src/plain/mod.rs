@@ -16,6 +16,7 @@ mod morph;
 mod read;
 mod rect;
 mod scan;
+mod short;
 mod step;
 #[cfg(test)]
 pub mod tests;

@@ -1,6 +1,7 @@
 //! Least and largest of a window after van Herk: in blocks as long as the window, what is least up to the end of a block;
 //! then what is least since the start of the next one. A window is a part of each.
 use super::lines::{copy, Along};
+use super::short::LONGEST;
 use std::ops::Range;
 
 /// A radius in one direction. The window's lines run from y − radius to y + radius − 1.
@@ -15,14 +16,25 @@ impl Along for Extreme {
     }
 
     fn run(&self, src: &mut [u8], spare: &mut [u8], n: usize, wanted: Range<usize>, dst: &mut [u8], step: usize) {
-        if self.radius == 0 {
-            return copy(src, n, wanted, dst, step);
-        }
         let lines = Lines { src, n, count: src.len() / n, radius: self.radius, largest: self.largest };
+        match (self.radius, self.largest) {
+            (0, _) => copy(src, n, wanted, dst, step),
+            (..=LONGEST, false) => self.short_lines(src, n, wanted, dst, step, u8::min),
+            (..=LONGEST, true) => self.short_lines(src, n, wanted, dst, step, u8::max),
+            (_, false) => lines.run(spare, wanted, dst, step, u8::min),
+            (_, true) => lines.run(spare, wanted, dst, step, u8::max),
+        }
+    }
+
+    fn by_row(&self) -> bool {
+        self.radius <= LONGEST
+    }
+
+    fn row(&self, row: &[u8], wanted: Range<usize>, dst: &mut [u8]) {
         if self.largest {
-            lines.run(spare, wanted, dst, step, u8::max);
+            self.short_row(row, wanted, dst, u8::max);
         } else {
-            lines.run(spare, wanted, dst, step, u8::min);
+            self.short_row(row, wanted, dst, u8::min);
         }
     }
 }
@@ -35,7 +47,7 @@ struct Lines<'a> {
     largest: bool,
 }
 
-fn fold(into: &mut [u8], from: &[u8], pick: impl Fn(u8, u8) -> u8) {
+pub fn fold(into: &mut [u8], from: &[u8], pick: impl Fn(u8, u8) -> u8) {
     for (into, from) in into.iter_mut().zip(from) {
         *into = pick(*into, *from);
     }

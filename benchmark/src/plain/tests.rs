@@ -41,15 +41,13 @@ struct Case {
     scratch: Vec<u8>,
 }
 
-/// A sheet of the second program's random steps, on a canvas up to 40 × 40 or long and narrow.
-fn case(random: &mut Random) -> Case {
-    let side = |random: &mut Random| if random.once_in(12) { 140 } else { 1 + random.below(40) };
-    let (width, height, count) = (side(random), side(random), 1 + random.below(5));
-    let steps = print::steps(&sheet(random, count, width, height, false), random.below(5)).into_bytes();
+/// A case of these step lines, now and then with a buffer that is refused.
+fn case(random: &mut Random, width: usize, height: usize, steps: String) -> Case {
+    let (size, count) = (width * height, steps.lines().count());
     let step::Region { x, y, width: across, height: down } = region(random, width, height);
     let named = Region { x, y, width: across, height: down };
-    let (mut source, mut workspace) = (picture(random, width * height), picture(random, width * height * count));
-    let mut scratch: Vec<u8> = (0..8 * width * height).map(|_| random.byte()).collect();
+    let (mut source, mut workspace) = (picture(random, size), picture(random, size * count));
+    let mut scratch: Vec<u8> = (0..8 * size).map(|_| random.byte()).collect();
     match random.below(40) {
         0 => damage_picture(random, &mut source),
         1 => damage_picture(random, &mut workspace),
@@ -58,7 +56,7 @@ fn case(random: &mut Random) -> Case {
         4 => scratch.push(0),
         _ => {}
     }
-    Case { width, height, steps, named, source, workspace, scratch }
+    Case { width, height, steps: steps.into_bytes(), named, source, workspace, scratch }
 }
 
 /// Answer, workspace and scratch of a call.
@@ -70,17 +68,41 @@ fn after(case: &Case, partly: bool, by: &dyn Renderer) -> (Answer, Vec<u8>, Vec<
     (answer, workspace, scratch)
 }
 
+fn same(case: &Case) {
+    let first = |a: &[u8], b: &[u8]| a.iter().zip(b).position(|(a, b)| a != b);
+    for partly in [false, true] {
+        let (plain, second) = (after(case, partly, &Plain), after(case, partly, &Second(Fault::None)));
+        let said = || format!("redraw {partly}, {} x {}: {}", case.width, case.height, String::from_utf8_lossy(&case.steps));
+        assert_eq!(plain.0, second.0, "{}", said());
+        assert_eq!(first(&plain.1, &second.1), None, "workspace, {}", said());
+        assert_eq!(first(&plain.2, &second.2), None, "scratch, {}", said());
+    }
+}
+
 #[test]
-fn the_plain_version_is_the_second_program() {
+fn random_sheets() {
     let mut random = Random::new(7);
-    for n in 0..3000 {
-        let case = case(&mut random);
-        for partly in [false, true] {
-            let (plain, second) = (after(&case, partly, &Plain), after(&case, partly, &Second(Fault::None)));
-            let said = || format!("case {n}, redraw {partly}, {} x {}: {}", case.width, case.height, String::from_utf8_lossy(&case.steps));
-            assert_eq!(plain.0, second.0, "{}", said());
-            assert_eq!(plain.1.iter().zip(&second.1).position(|(a, b)| a != b), None, "workspace, {}", said());
-            assert_eq!(plain.2.iter().zip(&second.2).position(|(a, b)| a != b), None, "scratch, {}", said());
+    let side = |random: &mut Random| if random.once_in(12) { 140 } else { 1 + random.below(40) };
+    for _ in 0..3000 {
+        let (width, height, count) = (side(&mut random), side(&mut random), 1 + random.below(5));
+        let steps = print::steps(&sheet(&mut random, count, width, height, false), random.below(5));
+        same(&case(&mut random, width, height, steps));
+    }
+}
+
+/// Windows of every size, on canvases that they leave on one side, on both, or not.
+#[test]
+fn every_window() {
+    let mut random = Random::new(8);
+    for n in 0..=64 {
+        for kind in ["erode", "dilate", "blur"] {
+            let number = |n: usize| if kind == "blur" { format!("{}.{}", n / 2, n % 2 * 5) } else { n.to_string() };
+            for (across, down) in [(n, 0), (0, n), (n, n), (random.below(65), n)] {
+                let (width, height) = (1 + random.below(n + 20), 1 + random.below(n + 20));
+                let step::Region { x, y, width: w, height: h } = region(&mut random, width, height);
+                let steps = format!("{kind}\t{x}\t{y}\t{w}\t{h}\tsrc\t{}\t{}\n", number(across), number(down));
+                same(&case(&mut random, width, height, steps));
+            }
         }
     }
 }
