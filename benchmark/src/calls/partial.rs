@@ -83,10 +83,8 @@ pub fn print(side: usize, ours: &dyn Renderer, plain: &dyn Renderer, parts: &Par
         let row = measure(old, ours, plain, parts).map_err(|error| format!("{}: {error}", sheet.name))?;
         let Row { count, ours, scans, clearing, drawing: (drawing, error), plain, pass } = row;
         let (rest, ratio, passes) = (ours - scans - clearing - drawing, ours / plain, ours / pass);
-        println!(
-            "| {} | {count} | {ours:.2} | {scans:.2} | {clearing:.2} | {drawing:.3} ± {error:.3} | {rest:.2} | {plain:.2} | {ratio:.2} | {passes:.1} |",
-            sheet.name
-        );
+        let split = format!("{scans:.2} | {clearing:.2} | {drawing:.3} ± {error:.3} | {rest:.2}");
+        println!("| {} | {count} | {ours:.2} | {split} | {plain:.2} | {ratio:.2} | {passes:.1} |", sheet.name);
     }
     Ok(())
 }
