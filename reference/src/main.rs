@@ -2,7 +2,11 @@
 
 use reference::fault::Fault;
 use reference::random::Random;
-use reference::{budget, cases::{plans, texts}, print, sums};
+use reference::{
+    budget,
+    cases::{plans, texts},
+    print, sums,
+};
 use std::io::{Read, Write};
 use std::path::Path;
 use std::process::ExitCode;

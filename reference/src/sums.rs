@@ -83,12 +83,12 @@ pub fn sheet(name: &str, lines: &str) -> String {
     let source = source(SEED, SIDE * SIDE);
     let (mut workspace, mut scratch) = (vec![0; size * steps.len()], vec![0; 2 * size]);
     let answer = render(sheet, &source, &mut workspace, &mut scratch, Fault::None);
-    let mut said = format!("{name}\tanswer {}\n", answer.packed());
+    let mut said = format!("{name}\tanswer {}\n", answer.number);
     for (n, layer) in workspace.chunks_exact(size).enumerate() {
         said += &line(&format!("{name} layer {n}"), layer);
     }
     let (answer, count) = redraw(sheet, EDIT, &edited(&source), &mut workspace, &mut scratch, Fault::None);
-    said += &format!("{name} redraw\tanswer {}\tcount {count}\n", answer.packed());
+    said += &format!("{name} redraw\tanswer {}\tcount {count}\n", answer.number);
     said + &line(&format!("{name} redraw layer {}", steps.len() - 1), &workspace[size * (steps.len() - 1)..])
 }
 
