@@ -1,9 +1,9 @@
--- `cases::field::hex` meets its contract: the loop stays inside the line. Assumes nothing.
+-- `tables::field::hex` meets its contract: the loop stays inside the line. Assumes nothing.
 use Prim.Native.Nat.{_≤_, _-_}
 use native.Mathlib.Omega.{arith}
 use borrow.Author.Needs.{needs}
-use Rattle.cases.proofs.field.hex.Statement.{statement}
-use Rattle.cases.proofs.field.hex.Tie as tie
+use Rattle.tables.proofs.field.hex.Statement.{statement}
+use Rattle.tables.proofs.field.hex.Tie as tie
 
 abbrev Inv-loop : tie.InvT-loop
 Inv-loop line at count end value₀ i₀ value i = i ≤ end
