@@ -38,13 +38,24 @@ pub struct Entry {
 
 /// The listed calls, then `many` random ones: the program's input and the lines.
 pub fn entries(seed: u64, many: usize) -> (Vec<u8>, String) {
+    let all = calls(seed, many);
+    (all.iter().flat_map(written).collect(), answers(&all, Fault::None))
+}
+
+pub fn calls(seed: u64, many: usize) -> Vec<Entry> {
     let mut random = Random::new(seed);
     let mut all = listed();
-    while all.len() < listed().len() + many {
+    let end = all.len() + many;
+    while all.len() < end {
         let name = format!("{}", all.len());
         all.extend(random_entry(&mut random, name));
     }
-    (all.iter().flat_map(written).collect(), all.iter().map(lines).collect())
+    all
+}
+
+/// The lines of calls, of the rules with a fault or without.
+pub fn answers(all: &[Entry], fault: Fault) -> String {
+    all.iter().map(|entry| lines(entry, fault)).collect()
 }
 
 fn fits(case: &Case) -> bool {
@@ -124,26 +135,25 @@ const BLANK: Step = Step {
     numbers: Vec::new(),
 };
 
-/// The lines of one entry.
-pub fn lines(entry: &Entry) -> String {
+fn lines(entry: &Entry, fault: Fault) -> String {
     let Case { width, height, rect, source, .. } = &entry.case;
-    let mut steps = match read_steps(&entry.case.steps, Fault::None) {
+    let mut steps = match read_steps(&entry.case.steps, fault) {
         Err(refused) => return format!("{:12} text {} {}\n", entry.name, refused.number, refused.place),
         Ok(steps) => steps,
     };
     steps.resize(entry.count, BLANK);
     let sheet = Sheet { width: *width, height: *height, steps: &steps };
     let (mut workspace, mut scratch) = (entry.case.workspace.clone(), entry.case.scratch.clone());
-    let answer = render(sheet, source, &mut workspace, &mut scratch, Fault::None);
+    let answer = render(sheet, source, &mut workspace, &mut scratch, fault);
     let rendered = format!("{:12} render {} {}", entry.name, answer.number, answer.place);
-    let after_render = after(entry, &workspace, &scratch);
+    let after_render = after(entry, &workspace, &scratch, fault);
     let (mut workspace, mut scratch) = (entry.case.workspace.clone(), entry.case.scratch.clone());
-    let (answer, count) = redraw(sheet, *rect, source, &mut workspace, &mut scratch, Fault::None);
+    let (answer, count) = redraw(sheet, *rect, source, &mut workspace, &mut scratch, fault);
     let redrawn = format!("{:12} redraw {} {} {count}", entry.name, answer.number, answer.place);
-    format!("{rendered}{after_render}\n{redrawn}{}\n", after(entry, &workspace, &scratch))
+    format!("{rendered}{after_render}\n{redrawn}{}\n", after(entry, &workspace, &scratch, fault))
 }
 
-fn after(entry: &Entry, workspace: &[u8], scratch: &[u8]) -> String {
+fn after(entry: &Entry, workspace: &[u8], scratch: &[u8], fault: Fault) -> String {
     let kept = if workspace == entry.case.workspace { "kept" } else { "changed" };
     let cleared = if scratch == entry.case.scratch {
         "kept"
@@ -152,15 +162,16 @@ fn after(entry: &Entry, workspace: &[u8], scratch: &[u8]) -> String {
     } else {
         "changed"
     };
-    format!(" {kept} {cleared}{}", shown(entry, workspace))
+    format!(" {kept} {cleared}{}", shown(entry, workspace, fault))
 }
 
-fn shown(entry: &Entry, workspace: &[u8]) -> String {
+fn shown(entry: &Entry, workspace: &[u8], fault: Fault) -> String {
     let Case { width, height, .. } = entry.case;
-    let (offset, length) = layer(width, height, entry.count, entry.layer, workspace.len(), Fault::None);
-    let view = &workspace[offset..offset + length];
+    let (offset, length) = layer(width, height, entry.count, entry.layer, workspace.len(), fault);
+    // A wrong view may end beyond the workspace.
+    let view = &workspace[offset..workspace.len().min(offset + length)];
     match entry.show {
-        's' => format!(" {} {} {}", poly(workspace), view.len(), poly(view)),
+        's' => format!(" {} {} {}", poly(workspace), length, poly(view)),
         'x' => view.chunks_exact(4).map(|p| format!(" {:02x}{:02x}{:02x}{:02x}", p[0], p[1], p[2], p[3])).collect(),
         'a' => view.chunks_exact(4).map(|p| format!(" {}", p[3])).collect(),
         _ => String::new(),

@@ -62,12 +62,14 @@ fn pixels() -> Vec<Entry> {
     });
     vec![
         pixel("P3", 0x0000ffff, OVER, &[0x80000080, 9]),
+        // The flood's rectangle is empty, so its layer stays 00000009: 255 · 246 ÷ 255 of the blue is left.
         pixel("P3 stale", 0x0000ffff, OVER, &[9, 9]),
         example.named([1, 0, 1, 1]),
         pixel("P4", 0x102030ff, "flood 0 0 1 1 255 9 0 1\nxor 0 0 1 1 0 src\n", &[0xff0900ff, 9]),
         pixel("P5", 0x000000ff, "flood 0 0 1 1 255 255 255 1\narith 0 0 1 1 0 src 0 0.5 0.5 0\n", &[0xffffffff, 9]),
         pixel("P7", 0xff0000ff, "saturate 0 0 1 1 src 0\n", &[9]),
         pixel("P8", 0xffffffff, "lumalpha 0 0 1 1 src\n", &[9]),
+        // 800000ff, 408000ff, 204080ff.
         pixel("merge four", 0x000000ff, MERGE, &[0x80000080, 0x00800080, 0x00008080, 9]),
     ]
 }
@@ -79,8 +81,10 @@ fn neighbourhoods() -> Vec<Entry> {
     let shades = [10, 20, 30, 40];
     vec![
         line("P9", 5, &middle, "blur 0 0 5 1 alpha 1.5 0", [2, 0, 1, 1]),
+        line("P9 wide", 9, &[0, 0, 0, 0, 255, 0, 0, 0, 0], "blur 0 0 9 1 alpha 1.5 0", [4, 0, 1, 1]),
         line("P9 down", 1, &middle, "blur 0 0 1 5 alpha 0 1.5", [0, 2, 1, 1]),
         line("P9 cut", 5, &middle, "blur 1 0 3 1 src 1.5 0", [2, 0, 1, 1]),
+        // 85 85 0, 57 57 28, 38 47 28: nothing stands to the left between passes either.
         line("P9 edge", 3, &[255, 0, 0], "blur 0 0 3 1 src 1.5 0", [0, 0, 1, 1]),
         line("P9 no region", 5, &middle, "blur 2 0 0 1 src 1.5 0", [2, 0, 1, 1]),
         line("P9 no rect", 5, &middle, "blur 0 0 5 1 src 1.5 0", [2, 0, 0, 1]),
@@ -94,14 +98,18 @@ fn neighbourhoods() -> Vec<Entry> {
         line("erode edges", 5, &[255; 5], "erode 0 0 5 1 src 2 0", [0, 0, 5, 1]),
         line("erode down", 1, &[255; 5], "erode 0 0 1 5 src 0 2", [0, 0, 1, 5]),
         line("P11 dilate", 8, &fourth, "dilate 0 0 8 1 src 1 0", [3, 0, 1, 1]),
+        // Two wide: 128 at 3 and 4; then 64 128 64; three wide: 21 64 85 64 21.
         line("P11 blur", 8, &fourth, "blur 0 0 8 1 src 1 0", [3, 0, 1, 1]),
         line("P11 cut", 8, &fourth, "dilate 4 0 4 1 src 1 0", [3, 0, 1, 1]),
+        // Rendered: 128 255 128, 64 192 192 64, 21 85 149 149 85 21. Redrawn, from the nines around: 5 9 9 132 255 132 9 9,
+        // 7 9 71 194 194 71 9 5, and x 1 width 6 of the last pass.
         line("P11 both", 8, &fourth, "dilate 0 0 8 1 src 1 0\nblur 0 0 8 1 0 1 0", [3, 0, 1, 1]),
         line("P11 held", 8, &fourth, "blur 0 0 8 1 src 1 0", [3, 0, 1, 1]).with(|call| call.case.workspace.fill(0)),
         line("offset right", 4, &shades, "offset 0 0 4 1 src 1 0", [1, 0, 1, 1]),
         line("offset up", 1, &shades, "offset 0 0 1 4 src 0 -1", [0, 1, 1, 1]),
         line("offset out", 4, &shades, "offset 0 0 4 1 src 1024 0", [1, 0, 1, 1]),
         line("P12 zero", 4, &shades, "blur 0 0 4 1 src x80000000 0", [1, 0, 1, 1]),
+        // d is 60: 255 becomes 4, then 0.
         line("sx 32", 1, &[255], "blur 0 0 1 1 src 32 0", [0, 0, 1, 1]),
     ]
 }
