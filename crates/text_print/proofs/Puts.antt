@@ -10,7 +10,7 @@ use lib.Seq.{take-suc, take-all, length-take-le}
 use Rattle.filter.specs.Bytes.{concat}
 use Rattle.filter.proofs.Concat.{concat-length}
 use Rattle.text.specs.Many.{stored}
-use Rattle.text.proofs.Stored.{stored-none, stored-length, stored-next, stored-more}
+use Rattle.text.proofs.Stored.{stored-none, stored-next, stored-more}
 use Rattle.text_print.specs.Code.{Put}
 
 pub put-none : (at : ℕ) (d : List ℕ) → Put [] at d d at
@@ -23,9 +23,6 @@ put-one at d x h = record {
 }
 
 module _ {t : List ℕ} {at : ℕ} {d d′ : List ℕ} {m : ℕ} (p : Put t at d d′ m) where
-  pub put-long : at + length t ≤ length d → length d′ ≡ length d
-  put-long h = ap length (p .is) ∙ stored-length d at t h
-
   pub put-then : {u d″ : List ℕ} {n : ℕ} → Put u m d′ d″ n → at + length t + length u ≤ length d → Put (t ++ u) at d d″ n
   put-then {u} {d″} {n} q h = record {
     is = q .is ∙ ap (λ (l : List ℕ). stored l m u) (p .is) ∙ ap (λ (j : ℕ). stored (stored d at t) j u) (p .ends) ∙ stored-next d at t u h;

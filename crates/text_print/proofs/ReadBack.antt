@@ -83,6 +83,10 @@ shown (suc k) n m h l = go (decLt n 10) m l (λ j q. shown k (n / 10) j (omega a
     go (no a) zero l ih = absurd (omega (arith, pow-suc 10 0, pow-zero 10))
     go (no a) (suc m) l ih = rw (shortest-more k n (omega arith)) (shown-more (shortest k (n / 10)) n m (omega arith) (ih m (omega (arith, pow-suc 10 (suc m)))))
 
+pub decimal-few : (m n : ℕ) → n < 10 ^ suc m → length (decimal n) ≤ suc m
+unfolding decimal
+decimal-few m n h = shown n n m (omega arith) h .few
+
 -- 1 to m digits "without leading zeros"
 pub decimal-read : (m n : ℕ) → 1 ≤ m → n < 10 ^ m → naturalOf m (decimal n) ≡ Is n
 unfolding decimal

@@ -45,7 +45,7 @@ fn put_row(out: &mut [u8], at: usize, w: usize, layer: &[u8], from: usize) -> us
 
 // The lines of a picture.
 pub fn put_rows(out: &mut [u8], at: usize, w: usize, h: usize, layer: &[u8]) -> usize
-    requires { ⌜ (w ≤ 16) × (h ≤ 16) × (length (now layer) ≡ size w h) ⌝ }
+    requires { ⌜ length (now layer) ≡ size w h ⌝ }
     requires { ⌜ at + length (rowLines w h (read w h (now layer) 0)) ≤ length (now out) ⌝ }
     ensures { λ r. ⌜ Put (rowLines w h (read w h (now (layer .entry)) 0)) at (now (out .entry)) (now (out .exit)) r ⌝ }
 {
@@ -60,7 +60,7 @@ pub fn put_rows(out: &mut [u8], at: usize, w: usize, h: usize, layer: &[u8]) -> 
 
 // What is printed for an accepted sheet.
 pub fn put_ok(out: &mut [u8], at: usize, w: usize, h: usize, layer: &[u8]) -> usize
-    requires { ⌜ (w ≤ 16) × (h ≤ 16) × (length (now layer) ≡ size w h) ⌝ }
+    requires { ⌜ length (now layer) ≡ size w h ⌝ }
     requires { ⌜ at + length (okText w h (read w h (now layer) 0)) ≤ length (now out) ⌝ }
     ensures { λ r. ⌜ Put (okText w h (read w h (now (layer .entry)) 0)) at (now (out .entry)) (now (out .exit)) r ⌝ }
 {
