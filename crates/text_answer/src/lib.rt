@@ -107,10 +107,11 @@ fn print_reading(reading: Reading, out: &mut [u8]) -> usize
     print_sheet(width, height, sheet, &pixels[..n], out)
 }
 
-// What `sheet` prints for a text. The answer is its length; it is stored at the start of `out` where that is long enough, and else `out` is
-// left as it was.
+// What `sheet` prints for a text. The answer is its length, never above 4,096; it is stored at the start of `out` where that is long enough,
+// and else `out` is left as it was.
 pub fn answer(text: &[u8], out: &mut [u8]) -> usize
     ensures { λ r. ⌜ r ≡ length (printedOf (now (text .entry))) ⌝ }
+    ensures { λ r. ⌜ r ≤ 4096 ⌝ }
     ensures { λ _. ⌜ now (out .exit) ≡ cond (leb (length (printedOf (now (text .entry)))) (length (now (out .entry)))) (stored (now (out .entry)) 0 (printedOf (now (text .entry)))) (now (out .entry)) ⌝ }
 {
     let mut printed = [0u8; 4096];

@@ -32,12 +32,14 @@ same-length c = search needs
 returns : tie.Need-returns
 returns c =
     let e = c .before .before .before .before .before .before .before .before .before .read .ensures in
-    (printed-length _ e (c .before .before .before .before .before .before .before .print-reading .ensures), printed-stored _ e (c .before .before .before .before .before .before .before .print-reading .ensures) (c .before .before .before .before .before .before .before .before .before .before .before .before .args .out .now) (c .before .before .before .before .before .if1 .taken) (c .before .before .put-word .ensures))
+    let p = c .before .before .before .before .before .before .before .print-reading .ensures in
+    (printed-length _ e p, (omega (arith, put-fits p), printed-stored _ e p (c .before .before .before .before .before .before .before .before .before .before .before .before .args .out .now) (c .before .before .before .before .before .if1 .taken) (c .before .before .put-word .ensures)))
 
 returns-2 : tie.Need-returns-2
 returns-2 c =
     let e = c .before .before .before .before .read .ensures in
-    (printed-length _ e (c .before .before .print-reading .ensures), printed-kept _ e (c .before .before .print-reading .ensures) _ (c .if1 .left))
+    let p = c .before .before .print-reading .ensures in
+    (printed-length _ e p, (omega (arith, put-fits p), printed-kept _ e p _ (c .if1 .left)))
 
 pub answer-spec : {M : Type 1} → statement M
 answer-spec =
