@@ -1,13 +1,11 @@
 // From a text to what the program `sheet` prints. Canvases in text are small, so all buffers are local.
-mod stub;
-
 use filter::Answer;
 use filter::Sheet;
 use plan::answers::is_accepted;
 use plan::answers::number;
 use plan::answers::place;
 use plan::sizes::picture_size;
-use stub::render;
+use render::render;
 use text::Reading;
 use text::reader::read;
 use text_print::digits::put_word;
