@@ -1,0 +1,4 @@
+-- Laws of the loops over the steps of a sheet.
+pub mod Standing
+pub mod Rendering
+pub mod Redrawing

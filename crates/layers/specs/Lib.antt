@@ -1,0 +1,2 @@
+-- What the loops over the steps of a sheet may rely on.
+pub mod Ready

@@ -1,0 +1,3 @@
+-- What the entry points promise.
+pub mod Promise
+pub mod View
