@@ -47,5 +47,5 @@ pub record Redraws (w h : ℕ) (steps : List Step) (n : ℕ) (g : Region) (src b
       → pixelAt after (k * size w h + 4 * (y * w + x)) ≡ pixelAt before (k * size w h + 4 * (y * w + x))
 
 -- "no colour above its alpha", at every pixel of the n layers in d
-pub record ValidLayers (w h n : ℕ) (d : List ℕ) : Type 0 where
+pub record AllValid (w h n : ℕ) (d : List ℕ) : Type 0 where
   pub valid : (k x y : ℕ) → k < n → x < w → y < h → Valid (pixelAt d (k * size w h + 4 * (y * w + x)))

@@ -9,9 +9,7 @@ use plan::answers::place;
 use text::reader::read_steps;
 ghost use mathlib.Core.Path.{_≡_};
 ghost use mathlib.Core.Bool.{true};
-ghost use Prim.Native.Nat.{_*_};
-ghost use Rattle.pixel.specs.Bytes.{ValidRow};
-ghost use Rattle.capi.specs.Promise.{layerBytes, redrawnBytes, zeros, Redraws};
+ghost use Rattle.capi.specs.Promise.{layerBytes, redrawnBytes, zeros, Redraws, AllValid};
 ghost use Rattle.capi.specs.Lines.{stepsIn, countIn, renderAnswer, redrawAnswer, replyOf, redrawingOf, drawn?, ifDrawn};
 
 pub fn render_lines(
@@ -25,7 +23,7 @@ pub fn render_lines(
     ensures answers { λ r. ⌜ r ≡ replyOf (now (steps .entry)) (renderAnswer width height (now (steps .entry)) (now (source .entry)) (now (workspace .entry)) (now (scratch .entry))) ⌝ }
     ensures layers { λ _. ⌜ now (workspace .exit) ≡ ifDrawn (now (steps .entry)) (renderAnswer width height (now (steps .entry)) (now (source .entry)) (now (workspace .entry)) (now (scratch .entry))) (layerBytes width height (stepsIn (now (steps .entry))) (countIn (now (steps .entry))) (now (source .entry))) (now (workspace .entry)) ⌝ }
     ensures cleared { λ _. ⌜ now (scratch .exit) ≡ ifDrawn (now (steps .entry)) (renderAnswer width height (now (steps .entry)) (now (source .entry)) (now (workspace .entry)) (now (scratch .entry))) (zeros (now (scratch .entry))) (now (scratch .entry)) ⌝ }
-    ensures valid { λ _. ⌜ (drawn? (now (steps .entry)) (renderAnswer width height (now (steps .entry)) (now (source .entry)) (now (workspace .entry)) (now (scratch .entry))) ≡ true → ValidRow (now (workspace .exit)) (countIn (now (steps .entry)) * (width * height))) ⌝ }
+    ensures valid { λ _. ⌜ (drawn? (now (steps .entry)) (renderAnswer width height (now (steps .entry)) (now (source .entry)) (now (workspace .entry)) (now (scratch .entry))) ≡ true → AllValid width height (countIn (now (steps .entry))) (now (workspace .exit))) ⌝ }
 {
     let t = read_steps(steps);
     if !t.good {
@@ -55,7 +53,7 @@ pub fn redraw_lines(
     ensures layers { λ _. ⌜ now (workspace .exit) ≡ ifDrawn (now (steps .entry)) (redrawAnswer width height (now (steps .entry)) named (now (source .entry)) (now (workspace .entry)) (now (scratch .entry))) (redrawnBytes width height (stepsIn (now (steps .entry))) (countIn (now (steps .entry))) named (now (workspace .entry)) (now (source .entry))) (now (workspace .entry)) ⌝ }
     ensures cleared { λ _. ⌜ now (scratch .exit) ≡ ifDrawn (now (steps .entry)) (redrawAnswer width height (now (steps .entry)) named (now (source .entry)) (now (workspace .entry)) (now (scratch .entry))) (zeros (now (scratch .entry))) (now (scratch .entry)) ⌝ }
     ensures redraws { λ _. ⌜ (drawn? (now (steps .entry)) (redrawAnswer width height (now (steps .entry)) named (now (source .entry)) (now (workspace .entry)) (now (scratch .entry))) ≡ true → Redraws width height (stepsIn (now (steps .entry))) (countIn (now (steps .entry))) named (now (source .entry)) (now (workspace .entry)) (now (workspace .exit))) ⌝ }
-    ensures valid { λ _. ⌜ (drawn? (now (steps .entry)) (redrawAnswer width height (now (steps .entry)) named (now (source .entry)) (now (workspace .entry)) (now (scratch .entry))) ≡ true → ValidRow (now (workspace .exit)) (countIn (now (steps .entry)) * (width * height))) ⌝ }
+    ensures valid { λ _. ⌜ (drawn? (now (steps .entry)) (redrawAnswer width height (now (steps .entry)) named (now (source .entry)) (now (workspace .entry)) (now (scratch .entry))) ≡ true → AllValid width height (countIn (now (steps .entry))) (now (workspace .exit))) ⌝ }
 {
     let t = read_steps(steps);
     if !t.good {

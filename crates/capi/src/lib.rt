@@ -9,11 +9,9 @@ use drawing::render_lines;
 use filter::Region;
 ghost use mathlib.Core.Path.{_≡_};
 ghost use mathlib.Core.Bool.{true, cond};
-ghost use Prim.Native.Nat.{_*_};
 ghost use lib.Dec.{leb};
 ghost use lib.ListN.{length};
-ghost use Rattle.pixel.specs.Bytes.{ValidRow};
-ghost use Rattle.capi.specs.Promise.{layerBytes, redrawnBytes, zeros, Redraws};
+ghost use Rattle.capi.specs.Promise.{layerBytes, redrawnBytes, zeros, Redraws, AllValid};
 ghost use Rattle.capi.specs.View.{viewAt};
 ghost use Rattle.capi.specs.Stub.{printedOf, stored};
 ghost use Rattle.capi.specs.Lines.{stepsIn, countIn, renderAnswer, redrawAnswer, numberFor, placeFor, countFor, drawn?, ifDrawn, region};
@@ -46,7 +44,7 @@ pub extern "C" fn twillgoose_render(
     ensures place { λ _. ⌜ now (place .exit) ≡ placeFor (now (steps .entry)) (renderAnswer width height (now (steps .entry)) (now (source .entry)) (now (workspace .entry)) (now (scratch .entry))) ⌝ }
     ensures layers { λ _. ⌜ now (workspace .exit) ≡ ifDrawn (now (steps .entry)) (renderAnswer width height (now (steps .entry)) (now (source .entry)) (now (workspace .entry)) (now (scratch .entry))) (layerBytes width height (stepsIn (now (steps .entry))) (countIn (now (steps .entry))) (now (source .entry))) (now (workspace .entry)) ⌝ }
     ensures cleared { λ _. ⌜ now (scratch .exit) ≡ ifDrawn (now (steps .entry)) (renderAnswer width height (now (steps .entry)) (now (source .entry)) (now (workspace .entry)) (now (scratch .entry))) (zeros (now (scratch .entry))) (now (scratch .entry)) ⌝ }
-    ensures valid { λ _. ⌜ (drawn? (now (steps .entry)) (renderAnswer width height (now (steps .entry)) (now (source .entry)) (now (workspace .entry)) (now (scratch .entry))) ≡ true → ValidRow (now (workspace .exit)) (countIn (now (steps .entry)) * (width * height))) ⌝ }
+    ensures valid { λ _. ⌜ (drawn? (now (steps .entry)) (renderAnswer width height (now (steps .entry)) (now (source .entry)) (now (workspace .entry)) (now (scratch .entry))) ≡ true → AllValid width height (countIn (now (steps .entry))) (now (workspace .exit))) ⌝ }
 {
     let r = render_lines(width, height, steps, source, workspace, scratch);
     *place = r.place as u64;
@@ -75,7 +73,7 @@ pub extern "C" fn twillgoose_redraw(
     ensures layers { λ _. ⌜ now (workspace .exit) ≡ ifDrawn (now (steps .entry)) (redrawAnswer width height (now (steps .entry)) (region x y columns rows) (now (source .entry)) (now (workspace .entry)) (now (scratch .entry))) (redrawnBytes width height (stepsIn (now (steps .entry))) (countIn (now (steps .entry))) (region x y columns rows) (now (workspace .entry)) (now (source .entry))) (now (workspace .entry)) ⌝ }
     ensures cleared { λ _. ⌜ now (scratch .exit) ≡ ifDrawn (now (steps .entry)) (redrawAnswer width height (now (steps .entry)) (region x y columns rows) (now (source .entry)) (now (workspace .entry)) (now (scratch .entry))) (zeros (now (scratch .entry))) (now (scratch .entry)) ⌝ }
     ensures redraws { λ _. ⌜ (drawn? (now (steps .entry)) (redrawAnswer width height (now (steps .entry)) (region x y columns rows) (now (source .entry)) (now (workspace .entry)) (now (scratch .entry))) ≡ true → Redraws width height (stepsIn (now (steps .entry))) (countIn (now (steps .entry))) (region x y columns rows) (now (source .entry)) (now (workspace .entry)) (now (workspace .exit))) ⌝ }
-    ensures valid { λ _. ⌜ (drawn? (now (steps .entry)) (redrawAnswer width height (now (steps .entry)) (region x y columns rows) (now (source .entry)) (now (workspace .entry)) (now (scratch .entry))) ≡ true → ValidRow (now (workspace .exit)) (countIn (now (steps .entry)) * (width * height))) ⌝ }
+    ensures valid { λ _. ⌜ (drawn? (now (steps .entry)) (redrawAnswer width height (now (steps .entry)) (region x y columns rows) (now (source .entry)) (now (workspace .entry)) (now (scratch .entry))) ≡ true → AllValid width height (countIn (now (steps .entry))) (now (workspace .exit))) ⌝ }
 {
     let named = Region {
         x,
@@ -99,7 +97,8 @@ pub extern "C" fn twillgoose_layer(
     workspace: usize,
     offset: &mut u64,
 ) -> u64
-    ensures { λ r. ⌜ (r ≡ viewAt width height steps n workspace .bytes) × (now (offset .exit) ≡ viewAt width height steps n workspace .offset) ⌝ }
+    ensures length { λ r. ⌜ r ≡ viewAt width height steps n workspace .bytes ⌝ }
+    ensures offset { λ _. ⌜ now (offset .exit) ≡ viewAt width height steps n workspace .offset ⌝ }
 {
     let v = stub::place(width, height, steps, n, workspace);
     *offset = v.offset as u64;

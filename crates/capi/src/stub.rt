@@ -4,13 +4,11 @@ use filter::Region;
 use filter::Sheet;
 ghost use mathlib.Core.Path.{_≡_};
 ghost use mathlib.Core.Bool.{true, cond};
-ghost use Prim.Native.Nat.{_*_};
 ghost use lib.Dec.{leb};
 ghost use lib.ListN.{length};
-ghost use Rattle.pixel.specs.Bytes.{ValidRow};
 ghost use Rattle.filter.specs.Answers.{accepted?};
 ghost use Rattle.filter.specs.Checks.{answerOf, render as rendering, redraw as redrawing};
-ghost use Rattle.capi.specs.Promise.{ifAccepted, layerBytes, redrawnBytes, zeros, countOf, Redraws};
+ghost use Rattle.capi.specs.Promise.{ifAccepted, layerBytes, redrawnBytes, zeros, countOf, Redraws, AllValid};
 ghost use Rattle.capi.specs.View.{viewAt};
 ghost use Rattle.capi.specs.Stub.{printedOf, stored};
 
@@ -35,7 +33,7 @@ pub fn render(
     ensures answers { λ a. ⌜ a ≡ answerOf width height (sheet .steps) (sheet .count) rendering (now (source .entry)) (now (workspace .entry)) (length (now (scratch .entry))) ⌝ }
     ensures layers { λ a. ⌜ now (workspace .exit) ≡ ifAccepted a (layerBytes width height (sheet .steps) (sheet .count) (now (source .entry))) (now (workspace .entry)) ⌝ }
     ensures cleared { λ a. ⌜ now (scratch .exit) ≡ ifAccepted a (zeros (now (scratch .entry))) (now (scratch .entry)) ⌝ }
-    ensures valid { λ a. ⌜ (accepted? a ≡ true → ValidRow (now (workspace .exit)) (sheet .count * (width * height))) ⌝ }
+    ensures valid { λ a. ⌜ (accepted? a ≡ true → AllValid width height (sheet .count) (now (workspace .exit))) ⌝ }
 {
     Answer::Done
 }
@@ -54,7 +52,7 @@ pub fn redraw(
     ensures layers { λ r. ⌜ now (workspace .exit) ≡ ifAccepted (r .answer) (redrawnBytes width height (sheet .steps) (sheet .count) named (now (workspace .entry)) (now (source .entry))) (now (workspace .entry)) ⌝ }
     ensures cleared { λ r. ⌜ now (scratch .exit) ≡ ifAccepted (r .answer) (zeros (now (scratch .entry))) (now (scratch .entry)) ⌝ }
     ensures redraws { λ r. ⌜ (accepted? (r .answer) ≡ true → Redraws width height (sheet .steps) (sheet .count) named (now (source .entry)) (now (workspace .entry)) (now (workspace .exit))) ⌝ }
-    ensures valid { λ r. ⌜ (accepted? (r .answer) ≡ true → ValidRow (now (workspace .exit)) (sheet .count * (width * height))) ⌝ }
+    ensures valid { λ r. ⌜ (accepted? (r .answer) ≡ true → AllValid width height (sheet .count) (now (workspace .exit))) ⌝ }
 {
     Redrawn {
         answer: Answer::Done,
