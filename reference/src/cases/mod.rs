@@ -9,7 +9,6 @@ use crate::number::Number;
 use crate::print;
 use crate::random::Random;
 use crate::step::{Input, Kind, Region, Step, KINDS, MOST_STEPS};
-use crate::text::LONGEST_TEXT;
 
 /// What is handed to a renderer.
 #[derive(Clone, Debug)]
@@ -194,11 +193,6 @@ pub fn case(random: &mut Random) -> Case {
     let mut text = print::steps(&steps, random.below(5)).into_bytes();
     if random.once_in(24) {
         texts::mutate(random, &mut text);
-    }
-    if random.once_in(100) {
-        // Longer than a whole sheet may be: step lines alone have no such limit.
-        let byte = random.pick(b"\n0\t ");
-        text.resize(LONGEST_TEXT + 1, byte);
     }
     let size = width * height;
     let mut source = picture(random, size);
