@@ -46,9 +46,9 @@ pub extern "C" fn twillgoose_render(
     ensures cleared { λ _. ⌜ now (scratch .exit) ≡ ifDrawn (now (steps .entry)) (renderAnswer width height (now (steps .entry)) (now (source .entry)) (now (workspace .entry)) (now (scratch .entry))) (zeros (now (scratch .entry))) (now (scratch .entry)) ⌝ }
     ensures valid { λ _. ⌜ (drawn? (now (steps .entry)) (renderAnswer width height (now (steps .entry)) (now (source .entry)) (now (workspace .entry)) (now (scratch .entry))) ≡ true → AllValid width height (countIn (now (steps .entry))) (now (workspace .exit))) ⌝ }
 {
-    let r = render_lines(width, height, steps, source, workspace, scratch);
-    *place = r.place as u64;
-    r.number
+    let rendered = render_lines(width, height, steps, source, workspace, scratch);
+    *place = rendered.place as u64;
+    rendered.number
 }
 
 // A redraw of a rectangle; returns the number.
@@ -81,10 +81,10 @@ pub extern "C" fn twillgoose_redraw(
         width: columns,
         height: rows,
     };
-    let r = redraw_lines(width, height, steps, named, source, workspace, scratch);
-    *place = r.place as u64;
-    *count = r.count as u64;
-    r.number
+    let redrawn = redraw_lines(width, height, steps, named, source, workspace, scratch);
+    *place = redrawn.place as u64;
+    *count = redrawn.count as u64;
+    redrawn.number
 }
 
 // Where layer n lies in a workspace of so many bytes; returns its length, 0 where there is no such layer.
@@ -111,5 +111,6 @@ pub extern "C" fn twillgoose_sheet(text: &[u8], out: &mut [u8]) -> u64
     ensures length { λ r. ⌜ r ≡ length (printedOf (now (text .entry))) ⌝ }
     ensures printed { λ _. ⌜ now (out .exit) ≡ cond (leb (length (printedOf (now (text .entry)))) (length (now (out .entry)))) (stored (now (out .entry)) 0 (printedOf (now (text .entry)))) (now (out .entry)) ⌝ }
 {
-    stub::answer(text, out) as u64
+    let length = stub::answer(text, out);
+    length as u64
 }
