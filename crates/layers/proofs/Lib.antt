@@ -1,4 +1,5 @@
 -- Laws of the loops over the steps of a sheet.
+pub mod Regions
 pub mod Standing
 pub mod Rendering
 pub mod Redrawing

@@ -1,11 +1,62 @@
+-- `layers::steps::render_step` meets its contract: the layer is cleared around the region, and the region drawn. Assumes nothing.
+use borrow.Author.Needs.{needs}
+use Rattle.stage.proofs.Agree.{valid-agree}
+use Rattle.layers.proofs.Regions.{sized-same, cleared-agree, render-stood}
 use Rattle.layers.proofs.steps.render_step.Statement.{statement}
 use Rattle.layers.proofs.steps.render_step.Tie as tie
-use Rattle.layers.proofs.steps.render_step.Reads as reads
-use Rattle.layers.proofs.steps.render_step.Lts as lts
 
--- src/steps.rt:16:1
+resolve-requires : tie.Need-resolve-requires
+resolve-requires c κs = search needs
+
+bounds-requires : tie.Need-bounds-requires
+bounds-requires c κs = search needs
+
+clear-around-requires : tie.Need-clear-around-requires
+clear-around-requires c κs = search needs
+
+draw-requires : tie.Need-draw-requires
+draw-requires c κs =
+    let l = c .before .before .before .before in
+    let k = l .before .before in
+    let s = k .before .before .before .before .before in
+    let a = s .args in
+    let ok = s .pre .3 in
+    let C = l .clear-around .ensures in (
+      sized-same _ _ _ _ _ _ (C .long) (s .pre .0),
+      s .pre .1,
+      valid-agree (a .n) _ _ (cleared-agree _ _ _ _ _ _ C (a .source .now)) (s .pre .2),
+      rw (k .before .resolve .ensures) (ok .inputs),
+      rw (k .before .resolve .ensures) (ok .numbers),
+      rw (k .bounds .ensures) (record { right = ok .region .right; bottom = ok .region .bottom }),
+    )
+
+same-length : tie.Need-same-length
+same-length c = search needs
+
+same-length-2 : tie.Need-same-length-2
+same-length-2 c = search needs
+
 returns : tie.Need-returns
-returns c = ?
+returns c =
+    let d = c .before .before .before .before in
+    let l = d .before .before .before .before .before in
+    let k = l .before .before in
+    let s = k .before .before .before .before .before in
+    let a = s .args in (
+      render-stood (a .w) (a .h) (a .n) (a .step) (a .source .now) _ _ _ (s .pre .3)
+          (rw (k .bounds .ensures) at (l .clear-around .ensures))
+          (rw (k .bounds .ensures, k .before .resolve .ensures) at (d .draw .ensures .0)),
+      d .draw .ensures .1,
+    )
 
 pub render-step-spec : {M : Type 1} → statement M
-render-step-spec = tie.close (tie.spec returns)
+render-step-spec =
+    tie.close
+    (tie.spec
+    resolve-requires
+    bounds-requires
+    clear-around-requires
+    draw-requires
+    same-length
+    same-length-2
+    returns)
