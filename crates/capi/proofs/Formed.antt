@@ -12,7 +12,7 @@ use Rattle.text.specs.declared.Steps.{Steps}
 use Rattle.text.specs.Reading.{stepsOf}
 use Rattle.capi.specs.declared.Redrawing.{Redrawing}
 use Rattle.capi.specs.declared.Reply.{Reply}
-use Rattle.capi.specs.Promise.{ifAccepted, countOf}
+use Rattle.render.specs.Promise.{ifAccepted, countOf}
 use Rattle.capi.specs.Lines.{formed?, stepsIn, countIn, numberFor, placeFor, countFor, drawn?, ifDrawn, replyOf, redrawingOf}
 
 module _ (lines : List ℕ) {t : Steps} (a : Answer) (e : t ≡ stepsOf lines) (bad : not (t .good) ≡ true) where

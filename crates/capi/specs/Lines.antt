@@ -10,7 +10,7 @@ use Rattle.filter.specs.declared.Step.{Step}
 use Rattle.filter.specs.Answers.{numberOf, placeOf, accepted?}
 use Rattle.filter.specs.Checks.{answerOf, render, redraw}
 use Rattle.text.specs.Reading.{stepsOf}
-use Rattle.capi.specs.Promise.{countOf}
+use Rattle.render.specs.Promise.{countOf}
 use Rattle.capi.specs.declared.Redrawing.{Redrawing}
 use Rattle.capi.specs.declared.Reply.{Reply}
 

@@ -1,15 +1,15 @@
 // Steps read from lines, then drawn.
 use super::Redrawing;
 use super::Reply;
-use super::stub::redraw;
-use super::stub::render;
 use filter::Region;
 use plan::answers::number;
 use plan::answers::place;
+use render::redraw;
+use render::render;
 use text::reader::read_steps;
 ghost use mathlib.Core.Path.{_≡_};
 ghost use mathlib.Core.Bool.{true};
-ghost use Rattle.capi.specs.Promise.{layerBytes, redrawnBytes, zeros, Redraws, AllValid};
+ghost use Rattle.render.specs.Promise.{layerBytes, redrawnBytes, zeros, Redraws, AllValid};
 ghost use Rattle.capi.specs.Lines.{stepsIn, countIn, renderAnswer, redrawAnswer, replyOf, redrawingOf, drawn?, ifDrawn};
 
 pub fn render_lines(

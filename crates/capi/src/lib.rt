@@ -11,8 +11,8 @@ ghost use mathlib.Core.Path.{_≡_};
 ghost use mathlib.Core.Bool.{true, cond};
 ghost use lib.Dec.{leb};
 ghost use lib.ListN.{length};
-ghost use Rattle.capi.specs.Promise.{layerBytes, redrawnBytes, zeros, Redraws, AllValid};
-ghost use Rattle.capi.specs.View.{viewAt};
+ghost use Rattle.render.specs.Promise.{layerBytes, redrawnBytes, zeros, Redraws, AllValid};
+ghost use Rattle.render.specs.View.{viewAt};
 ghost use Rattle.capi.specs.Stub.{printedOf, stored};
 ghost use Rattle.capi.specs.Lines.{stepsIn, countIn, renderAnswer, redrawAnswer, numberFor, placeFor, countFor, drawn?, ifDrawn, region};
 
@@ -100,7 +100,7 @@ pub extern "C" fn twillgoose_layer(
     ensures length { λ r. ⌜ r ≡ viewAt width height steps n workspace .bytes ⌝ }
     ensures offset { λ _. ⌜ now (offset .exit) ≡ viewAt width height steps n workspace .offset ⌝ }
 {
-    let v = stub::place(width, height, steps, n, workspace);
+    let v = render::views::place(width, height, steps, n, workspace);
     *offset = v.offset as u64;
     v.bytes as u64
 }
