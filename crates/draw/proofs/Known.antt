@@ -12,7 +12,7 @@ use Rattle.filter.specs.Earlier.{Earlier}
 use Rattle.filter.specs.Accepted.{Bounded}
 use Rattle.draw_point.specs.Pointwise.{Pointwise}
 
--- all kinds but blur, erode and dilate
+-- all kinds but blur, erode and dilate; a new kind is listed here, or has an arm of its own
 abbrev pub others : List ℕ
 others = 0 ∷ 1 ∷ 5 ∷ 6 ∷ 7 ∷ 8 ∷ 9 ∷ []
 

@@ -36,40 +36,18 @@ pub fn draw(
             draw_blur(workspace, source, scratch, w, h, n, i, dx, dy, rect)
         }
         Primitive::Erode(i, rx, ry) => {
-            draw_extreme(
-                Extreme::Least,
-                workspace,
-                source,
-                scratch,
-                w,
-                h,
-                n,
-                i,
-                rx,
-                ry,
-                rect,
-            )
+            let op = Extreme::Least;
+            draw_extreme(op, workspace, source, scratch, w, h, n, i, rx, ry, rect)
         }
         Primitive::Dilate(i, rx, ry) => {
-            draw_extreme(
-                Extreme::Largest,
-                workspace,
-                source,
-                scratch,
-                w,
-                h,
-                n,
-                i,
-                rx,
-                ry,
-                rect,
-            )
+            let op = Extreme::Largest;
+            draw_extreme(op, workspace, source, scratch, w, h, n, i, rx, ry, rect)
         }
         _ => draw_rows(workspace, source, w, h, n, primitive, rect),
     }
 }
 
-// The rectangle holds the whole canvas.
+// Whether the rectangle holds the whole canvas.
 fn covers(rect: Rect, w: usize, h: usize) -> bool
     ensures { λ r. ⌜ r ≡ covers? w h rect ⌝ }
 {

@@ -47,7 +47,7 @@ pub fn render(
     let answer = check_render(width, height, sheet, source, &workspace[..], scratch.len());
     if is_accepted(answer) {
         render_layers(workspace, source, scratch, width, height, sheet);
-        raster::row::clear(scratch);
+        raster::row::clear(scratch); // "all zero after an accepted call"
         return answer;
     }
     answer
@@ -70,7 +70,7 @@ pub fn redraw(
     ensures redraws { λ r. ⌜ (accepted? (r .answer) ≡ true → Redraws width height (sheet .steps) (sheet .count) named (now (source .entry)) (now (workspace .entry)) (now (workspace .exit))) ⌝ }
     ensures valid { λ r. ⌜ (accepted? (r .answer) ≡ true → AllValid width height (sheet .count) (now (workspace .exit))) ⌝ }
 {
-    let answer = check_redraw(
+    let checked = check_redraw(
         width,
         height,
         sheet,
@@ -79,10 +79,16 @@ pub fn redraw(
         &workspace[..],
         scratch.len(),
     );
-    if is_accepted(answer) {
+    if is_accepted(checked) {
         let count = redraw_layers(workspace, source, scratch, width, height, sheet, named);
         raster::row::clear(scratch);
-        return Redrawn { answer, count };
+        return Redrawn {
+            answer: checked,
+            count,
+        };
     }
-    Redrawn { answer, count: 0 }
+    Redrawn {
+        answer: checked,
+        count: 0,
+    }
 }

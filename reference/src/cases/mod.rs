@@ -1,5 +1,7 @@
 //! Random calls: sheets, pictures, buffers and rectangles, valid ones and damaged ones.
 
+pub mod calls;
+mod listed;
 pub mod numbers;
 pub mod plans;
 pub mod spoil;

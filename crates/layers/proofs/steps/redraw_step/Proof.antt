@@ -1,4 +1,5 @@
 -- `layers::steps::redraw_step` meets its contract: its rectangle is drawn. Assumes nothing.
+use native.Mathlib.Omega.{arith}
 use borrow.Author.Needs.{needs}
 use Rattle.stage.proofs.Steps.{redraw-stood}
 use Rattle.layers.proofs.steps.redraw_step.Statement.{statement}
@@ -11,7 +12,7 @@ draw-requires : tie.Need-draw-requires
 draw-requires c κs =
     let s = c .before .before .before .before .before .before in
     let e = c .resolve .ensures in
-    (s .pre .0, s .pre .1, s .pre .2, rw e (s .pre .3 .inputs), rw e (s .pre .3 .numbers), s .pre .5)
+    (s .pre .0, s .pre .1, s .pre .2, rw e (s .pre .3 .inputs), rw e (s .pre .3 .numbers), record { right = omega (arith, s .pre .5 .right); bottom = omega (arith, s .pre .5 .bottom) })
 
 same-length : tie.Need-same-length
 same-length c = search needs

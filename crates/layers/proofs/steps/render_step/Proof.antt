@@ -1,4 +1,5 @@
 -- `layers::steps::render_step` meets its contract: the layer is cleared around the region, and the region drawn. Assumes nothing.
+use native.Mathlib.Omega.{arith}
 use borrow.Author.Needs.{needs}
 use Rattle.stage.proofs.Agree.{valid-agree}
 use Rattle.layers.proofs.Regions.{sized-same, cleared-agree, render-stood}
@@ -27,7 +28,7 @@ draw-requires c κs =
       valid-agree (a .n) _ _ (cleared-agree _ _ _ _ _ _ C (a .source .now)) (s .pre .2),
       rw (k .before .resolve .ensures) (ok .inputs),
       rw (k .before .resolve .ensures) (ok .numbers),
-      rw (k .bounds .ensures) (record { right = ok .region .right; bottom = ok .region .bottom }),
+      rw (k .bounds .ensures) (record { right = omega (arith, ok .region .right); bottom = omega (arith, ok .region .bottom) }),
     )
 
 same-length : tie.Need-same-length
