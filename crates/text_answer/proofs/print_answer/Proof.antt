@@ -1,0 +1,59 @@
+-- `text_answer::print_answer` meets its contract. Assumes nothing.
+use mathlib.Core.Path.{sym, _∙_}
+use native.Mathlib.Omega.{arith}
+use borrow.Author.Needs.{needs}
+use Rattle.filter.specs.Bytes.{read}
+use Rattle.text_print.proofs.Puts.{put-as}
+use Rattle.text_answer.proofs.Rooms.{ok-room, refused-room}
+use Rattle.text_answer.proofs.Printed.{answer-ok, answer-refused}
+use Rattle.text_answer.proofs.print_answer.Statement.{statement}
+use Rattle.text_answer.proofs.print_answer.Tie as tie
+
+is-accepted-requires : tie.Need-is-accepted-requires
+is-accepted-requires c κs = search needs
+
+last-layer-requires : tie.Need-last-layer-requires
+last-layer-requires c κs = let s = c .before .before .before .before in (s .pre .0 .0, s .pre .0 .1, s .pre .1 (sym (c .before .is-accepted .ensures) ∙ c .if1 .taken), s .pre .0 .2)
+
+put-ok-requires : tie.Need-put-ok-requires
+put-ok-requires c κs =
+    let s = c .before .before .before .before .before .before in
+    (c .before .last-layer .ensures .0, omega (arith, ok-room (s .args .width) (s .args .height) (read (s .args .width) (s .args .height) (c .before .last-layer .result .now) 0) (s .pre .0 .0) (s .pre .0 .1)))
+
+same-length : tie.Need-same-length
+same-length c = search needs
+
+returns : tie.Need-returns
+returns c =
+    put-as (c .before .before .put-ok .ensures) _ (answer-ok _ _ _ _ _ (sym (c .before .before .before .before .before .before .is-accepted .ensures) ∙ c .before .before .before .before .before .if1 .taken) (c .before .before .before .before .last-layer .ensures .1))
+
+number-requires : tie.Need-number-requires
+number-requires c κs = search needs
+
+place-requires : tie.Need-place-requires
+place-requires c κs = search needs
+
+put-refused-requires : tie.Need-put-refused-requires
+put-refused-requires c κs = omega (arith, refused-room (c .before .number .result) (c .place .result) (search needs) (search needs))
+
+same-length-2 : tie.Need-same-length-2
+same-length-2 c = search needs
+
+returns-2 : tie.Need-returns-2
+returns-2 c =
+    put-as (c .before .before .put-refused .ensures) _ (answer-refused _ _ _ _ _ _ (sym (c .before .before .before .before .before .before .before .is-accepted .ensures) ∙ c .before .before .before .before .before .before .if1 .left) (c .before .before .before .before .number .ensures) (c .before .before .before .place .ensures))
+
+pub print-answer-spec : {M : Type 1} → statement M
+print-answer-spec =
+    tie.close
+    (tie.spec
+    is-accepted-requires
+    last-layer-requires
+    put-ok-requires
+    same-length
+    returns
+    number-requires
+    place-requires
+    put-refused-requires
+    same-length-2
+    returns-2)

@@ -1,0 +1,47 @@
+-- What is printed for document 01's example, and refusals of a text, of a sheet and of a number, computed from the rules. Assumes nothing.
+use mathlib.Core.Path.{_≡_, refl}
+use mathlib.Core.List.{List, [], _∷_, _++_}
+use Prim.Native.Nat.{ℕ}
+use Rattle.number.specs.Fraction.{nearest}
+use Rattle.number.specs.Number.{judgedRatio}
+use Rattle.pixel.specs.Composite.{composited}
+use Rattle.pixel.specs.Flood.{flooded}
+use Rattle.pixel.specs.Bytes.{firstInvalid}
+use Rattle.filter.specs.Rect as R
+use Rattle.filter.specs.Picture.{patch}
+use Rattle.filter.specs.Layers as L
+use Rattle.filter.specs.Kinds.{work}
+use Rattle.filter.specs.Steps as S
+use Rattle.filter.specs.Bytes as B
+use Rattle.filter.specs.Answers.{accepted?}
+use Rattle.filter.specs.Checks as C
+use Rattle.text_field.specs.Split as T
+use Rattle.text_field.specs.Field as F
+use Rattle.text.specs.Many as M
+use Rattle.text.specs.Kinds as K
+use Rattle.text.specs.StepLine as P
+use Rattle.text.specs.Document as D
+use Rattle.text.specs.Lines.{linesOf}
+use Rattle.text.specs.Reading.{textLines, readingOf}
+use Rattle.text.specs.Examples.{example, canvasLine, rowLine}
+use Rattle.text_print.specs.Digits.{digit, shortest, decimal, hexByte, hexPixel}
+use Rattle.text_print.specs.Output.{line, listed, rowFields, rowLines, okText, refusedText}
+use Rattle.text_answer.specs.Answer.{answerText, sheetText, readingText, printedOf}
+
+-- blur 0 0 2 1 src -4 0
+abbrev pub blurLine : List ℕ
+blurLine = 98 ∷ 108 ∷ 117 ∷ 114 ∷ 9 ∷ 48 ∷ 9 ∷ 48 ∷ 9 ∷ 50 ∷ 9 ∷ 49 ∷ 9 ∷ 115 ∷ 114 ∷ 99 ∷ 9 ∷ 45 ∷ 52 ∷ 9 ∷ 48 ∷ 10 ∷ []
+
+pub record Printed : Type 0 where
+  -- ok, row 80007fff 00000080
+  pub paper :
+      printedOf example
+      ≡ 111 ∷ 107 ∷ 10 ∷ 114 ∷ 111 ∷ 119 ∷ 9 ∷ 56 ∷ 48 ∷ 48 ∷ 48 ∷ 55 ∷ 102 ∷ 102 ∷ 102 ∷ 9 ∷ 48 ∷ 48 ∷ 48 ∷ 48 ∷ 48 ∷ 48 ∷ 56 ∷ 48 ∷ 10 ∷ []
+  -- refused 15 1, refused 3 0, refused 9 0
+  pub nothing : printedOf [] ≡ refusedText 15 1
+  pub stepless : printedOf (canvasLine ++ rowLine) ≡ refusedText 3 0
+  pub minus : printedOf (canvasLine ++ (blurLine ++ rowLine)) ≡ refusedText 9 0
+
+pub printed : Printed
+unfolding nearest judgedRatio composited flooded firstInvalid R.inside patch L.replaced L.initial L.rendered work S.resolved S.effectOf B.read B.concat accepted? C.firstOf C.all C.inputs? C.numbersAnswer C.widest C.stepAnswer C.sizesAnswer C.answerOf T.split T.join T.indexOf F.same F.digitOf F.accumulated F.digitsOf F.naturalOf F.hexOf F.fractionOf F.magnitudeOf F.numberOf M.all M.concat M.padded M.stored K.named K.firstNamed K.kindOf P.inputOf P.wiresOf P.operandsOf P.assembled P.stepAs P.stepOf D.sheetLine D.pixelsOf D.rowOf D.lineOf D.canvasOf linesOf textLines readingOf digit shortest decimal hexByte hexPixel line listed rowFields rowLines okText refusedText answerText sheetText readingText printedOf
+printed = record { paper = refl; nothing = refl; stepless = refl; minus = refl }

@@ -1,0 +1,43 @@
+-- The lines that are printed. Assumes nothing.
+use mathlib.Core.List.{List, [], _∷_, _++_}
+use Prim.Native.Nat.{ℕ, zero, suc}
+use Rattle.text_field.specs.Split.{join}
+use Rattle.pixel.specs.declared.Pixel.{Pixel}
+use Rattle.filter.specs.Picture.{Picture}
+use Rattle.filter.specs.Bytes.{concat}
+use Rattle.text_print.specs.Digits.{decimal, hexPixel}
+
+-- `ok`, `refused`, `row`
+abbrev pub okWord : List ℕ
+okWord = 111 ∷ 107 ∷ []
+
+abbrev pub refusedWord : List ℕ
+refusedWord = 114 ∷ 101 ∷ 102 ∷ 117 ∷ 115 ∷ 101 ∷ 100 ∷ []
+
+abbrev pub rowWord : List ℕ
+rowWord = 114 ∷ 111 ∷ 119 ∷ []
+
+-- "fields parted by one tab, each line closed by a line feed"
+unfoldable pub line : List (List ℕ) → List ℕ
+line fs = join 9 fs ++ (10 ∷ [])
+
+-- f 0, .. , f (n - 1)
+unfoldable pub listed : (ℕ → List ℕ) → ℕ → List (List ℕ)
+listed f zero = []
+listed f (suc n) = listed f n ++ (f n ∷ [])
+
+-- w pixels: "row fields being pixels left to right"
+unfoldable pub rowFields : ℕ → (ℕ → Pixel) → List (List ℕ)
+rowFields w row = rowWord ∷ listed (λ x. hexPixel (row x)) w
+
+-- the rows of a picture, top to bottom
+unfoldable pub rowLines : ℕ → ℕ → Picture → List ℕ
+rowLines w h p = concat (λ y. line (rowFields w (λ x. p x y))) h
+
+-- "It prints `ok` and the last layer as `row` lines"
+unfoldable pub okText : ℕ → ℕ → Picture → List ℕ
+okText w h p = line (okWord ∷ []) ++ rowLines w h p
+
+-- "or one line: `refused`, number, place, parted by tabs"
+unfoldable pub refusedText : ℕ → ℕ → List ℕ
+refusedText number place = line (refusedWord ∷ decimal number ∷ decimal place ∷ [])
