@@ -1,3 +1,2 @@
 -- What the library's functions promise.
-pub mod Stub
 pub mod Lines

@@ -2,7 +2,6 @@
 // length. Nothing is asked beforehand: what cannot be drawn is refused with document 01's number and place, and a refusal changes no byte
 // of a slice.
 mod drawing;
-mod stub;
 
 use drawing::redraw_lines;
 use drawing::render_lines;
@@ -13,7 +12,8 @@ ghost use lib.Dec.{leb};
 ghost use lib.ListN.{length};
 ghost use Rattle.render.specs.Promise.{layerBytes, redrawnBytes, zeros, Redraws, AllValid};
 ghost use Rattle.render.specs.View.{viewAt};
-ghost use Rattle.capi.specs.Stub.{printedOf, stored};
+ghost use Rattle.text.specs.Many.{stored};
+ghost use Rattle.text_answer.specs.Answer.{printedOf};
 ghost use Rattle.capi.specs.Lines.{stepsIn, countIn, renderAnswer, redrawAnswer, numberFor, placeFor, countFor, drawn?, ifDrawn, region};
 
 // Number and place of an answer.
@@ -111,6 +111,6 @@ pub extern "C" fn twillgoose_sheet(text: &[u8], out: &mut [u8]) -> u64
     ensures length { λ r. ⌜ r ≡ length (printedOf (now (text .entry))) ⌝ }
     ensures printed { λ _. ⌜ now (out .exit) ≡ cond (leb (length (printedOf (now (text .entry)))) (length (now (out .entry)))) (stored (now (out .entry)) 0 (printedOf (now (text .entry)))) (now (out .entry)) ⌝ }
 {
-    let length = stub::answer(text, out);
+    let length = text_answer::answer(text, out);
     length as u64
 }
