@@ -7,7 +7,7 @@ use crate::print;
 use crate::random::Random;
 use crate::render::{layer, redraw, render, Sheet};
 use crate::step::Region;
-use crate::text::read_steps;
+use crate::text::{read_steps, LONGEST_TEXT};
 
 /// The longest answer of `sheet` is far shorter.
 pub const ROOM: usize = 4096;
@@ -251,7 +251,12 @@ pub fn seeded(renderer: &dyn Renderer, seed: u64) -> Vec<String> {
         let text = texts::text(&mut random);
         same_text(renderer, &text, &mut random)
     });
-    let case = case(&mut random);
+    let mut case = case(&mut random);
+    if random.once_in(100) {
+        // Longer than a whole sheet may be: step lines alone have no such limit.
+        let byte = random.pick(b"\n0\t ");
+        case.steps.resize(LONGEST_TEXT + 1, byte);
+    }
     let told = |result: Result<(), String>| result.map_err(|failure| format!("{failure}; {}", case.summary()));
     let full = told(same_call(renderer, &case, false));
     let part = told(same_call(renderer, &case, true));

@@ -124,6 +124,7 @@ faults! {
     SeventeenSteps: "a seventeenth step line is read",
     SevenBeforeFifteen: "7 is given before 15",
     LongTextRead: "a text over 32,768 bytes is read",
+    LongStepsRefused: "step lines over 32,768 bytes are refused at place 0",
     PrintedInPart: "an answer that does not fit is stored in part",
 }
 

@@ -225,6 +225,9 @@ pub fn read(text: &[u8], fault: Fault) -> Result<Reading, Answer> {
 
 /// Step lines alone, as the library takes them; "a malformed one is 15 with its line", the seventeenth too.
 pub fn read_steps(text: &[u8], fault: Fault) -> Result<Vec<Step>, Answer> {
+    if text.len() > LONGEST_TEXT && fault.is(Fault::LongStepsRefused) {
+        return Err(Answer::refused(15, 0));
+    }
     let (lines, open) = lines(text, fault);
     let mut steps = Vec::new();
     for (n, line) in lines.iter().enumerate() {

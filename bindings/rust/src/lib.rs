@@ -98,6 +98,18 @@ pub fn render(
 /// `source`, as [`render`] draws them; whatever it held, no pixel outside the part that the steps derive from `rect` is
 /// altered; `scratch` is all zero. Refused, both are as they were.
 ///
+/// ```
+/// use twillgoose::{redraw, render, Rect};
+/// let steps = "dilate\t0\t0\t3\t1\tsrc\t1\t0\n";
+/// let (mut source, mut workspace, mut scratch) = ([0; 12], [0; 12], [0; 24]);
+/// render(3, 1, steps, &source, &mut workspace, &mut scratch)?;
+/// source[7] = 255; // the middle pixel's alpha
+/// let rect = Rect { x: 1, y: 0, width: 1, height: 1 };
+/// assert_eq!(redraw(3, 1, steps, rect, &source, &mut workspace, &mut scratch)?, 2);
+/// assert_eq!(workspace, [0, 0, 0, 0, 0, 0, 0, 255, 0, 0, 0, 255]);
+/// # Ok::<(), twillgoose::Refusal>(())
+/// ```
+///
 /// # Errors
 ///
 /// The first thing that is wrong, in the order of checking: any [`Refusal`].

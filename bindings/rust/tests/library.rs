@@ -15,7 +15,7 @@ fn count(steps: &str) -> usize {
 fn rendered(width: usize, height: usize, steps: &str, source: &[u8]) -> Result<Vec<u8>, Refusal> {
     let mut workspace = vec![7; workspace_len(width, height, count(steps))];
     let mut scratch = vec![7; scratch_len(width, height)];
-    let answer = render(width, height, &lines(steps), source, &mut workspace, &mut scratch);
+    let answer = render(width, height, lines(steps), source, &mut workspace, &mut scratch);
     let left = if answer.is_ok() { 0 } else { 7 };
     assert!(scratch.iter().all(|byte| *byte == left));
     if answer.is_err() {
@@ -56,7 +56,7 @@ fn a_redraw_gives_the_new_layers() {
     let mut workspace = rendered(8, 1, steps, &old).expect("accepted");
     let mut scratch = vec![1; scratch_len(8, 1)];
     let rect = Rect { x: 3, y: 0, width: 1, height: 1 };
-    let count = redraw(8, 1, &lines(steps), rect, &new, &mut workspace, &mut scratch);
+    let count = redraw(8, 1, lines(steps), rect, &new, &mut workspace, &mut scratch);
     assert_eq!(count, Ok(2 + 6));
     assert_eq!(workspace, rendered(8, 1, steps, &new).expect("accepted"));
     assert_eq!(scratch, vec![0; scratch_len(8, 1)]);

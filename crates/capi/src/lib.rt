@@ -1,0 +1,116 @@
+// The library for C and Rust: the entry points on numbers and byte slices, steps as lines of text. A slice passes as pointer, then
+// length. Nothing is asked beforehand: what cannot be drawn is refused with document 01's number and place, and a refusal changes no byte
+// of a slice.
+mod drawing;
+
+use drawing::redraw_lines;
+use drawing::render_lines;
+use filter::Region;
+ghost use mathlib.Core.Path.{_≡_};
+ghost use mathlib.Core.Bool.{true, cond};
+ghost use lib.Dec.{leb};
+ghost use lib.ListN.{length};
+ghost use Rattle.render.specs.Promise.{layerBytes, redrawnBytes, zeros, Redraws, AllValid};
+ghost use Rattle.render.specs.View.{viewAt};
+ghost use Rattle.text.specs.Many.{stored};
+ghost use Rattle.text_answer.specs.Answer.{printedOf};
+ghost use Rattle.capi.specs.Lines.{stepsIn, countIn, renderAnswer, redrawAnswer, numberFor, placeFor, countFor, drawn?, ifDrawn, region};
+
+// Number and place of an answer.
+pub struct Reply {
+    pub number: u64,
+    pub place: usize,
+}
+
+// Those of a redraw, and how many pixels were worked.
+pub struct Redrawing {
+    pub number: u64,
+    pub place: usize,
+    pub count: usize,
+}
+
+// A full render; returns the number.
+#[no_mangle]
+pub extern "C" fn twillgoose_render(
+    width: usize,
+    height: usize,
+    steps: &[u8],
+    source: &[u8],
+    workspace: &mut [u8],
+    scratch: &mut [u8],
+    place: &mut u64,
+) -> u64
+    ensures number { λ r. ⌜ r ≡ numberFor (now (steps .entry)) (renderAnswer width height (now (steps .entry)) (now (source .entry)) (now (workspace .entry)) (now (scratch .entry))) ⌝ }
+    ensures place { λ _. ⌜ now (place .exit) ≡ placeFor (now (steps .entry)) (renderAnswer width height (now (steps .entry)) (now (source .entry)) (now (workspace .entry)) (now (scratch .entry))) ⌝ }
+    ensures layers { λ _. ⌜ now (workspace .exit) ≡ ifDrawn (now (steps .entry)) (renderAnswer width height (now (steps .entry)) (now (source .entry)) (now (workspace .entry)) (now (scratch .entry))) (layerBytes width height (stepsIn (now (steps .entry))) (countIn (now (steps .entry))) (now (source .entry))) (now (workspace .entry)) ⌝ }
+    ensures cleared { λ _. ⌜ now (scratch .exit) ≡ ifDrawn (now (steps .entry)) (renderAnswer width height (now (steps .entry)) (now (source .entry)) (now (workspace .entry)) (now (scratch .entry))) (zeros (now (scratch .entry))) (now (scratch .entry)) ⌝ }
+    ensures valid { λ _. ⌜ (drawn? (now (steps .entry)) (renderAnswer width height (now (steps .entry)) (now (source .entry)) (now (workspace .entry)) (now (scratch .entry))) ≡ true → AllValid width height (countIn (now (steps .entry))) (now (workspace .exit))) ⌝ }
+{
+    let rendered = render_lines(width, height, steps, source, workspace, scratch);
+    *place = rendered.place as u64;
+    rendered.number
+}
+
+// A redraw of a rectangle; returns the number.
+#[no_mangle]
+pub extern "C" fn twillgoose_redraw(
+    width: usize,
+    height: usize,
+    steps: &[u8],
+    x: usize,
+    y: usize,
+    columns: usize,
+    rows: usize,
+    source: &[u8],
+    workspace: &mut [u8],
+    scratch: &mut [u8],
+    place: &mut u64,
+    count: &mut u64,
+) -> u64
+    ensures number { λ r. ⌜ r ≡ numberFor (now (steps .entry)) (redrawAnswer width height (now (steps .entry)) (region x y columns rows) (now (source .entry)) (now (workspace .entry)) (now (scratch .entry))) ⌝ }
+    ensures place { λ _. ⌜ now (place .exit) ≡ placeFor (now (steps .entry)) (redrawAnswer width height (now (steps .entry)) (region x y columns rows) (now (source .entry)) (now (workspace .entry)) (now (scratch .entry))) ⌝ }
+    ensures count { λ _. ⌜ now (count .exit) ≡ countFor (now (steps .entry)) (redrawAnswer width height (now (steps .entry)) (region x y columns rows) (now (source .entry)) (now (workspace .entry)) (now (scratch .entry))) width height (region x y columns rows) ⌝ }
+    ensures layers { λ _. ⌜ now (workspace .exit) ≡ ifDrawn (now (steps .entry)) (redrawAnswer width height (now (steps .entry)) (region x y columns rows) (now (source .entry)) (now (workspace .entry)) (now (scratch .entry))) (redrawnBytes width height (stepsIn (now (steps .entry))) (countIn (now (steps .entry))) (region x y columns rows) (now (workspace .entry)) (now (source .entry))) (now (workspace .entry)) ⌝ }
+    ensures cleared { λ _. ⌜ now (scratch .exit) ≡ ifDrawn (now (steps .entry)) (redrawAnswer width height (now (steps .entry)) (region x y columns rows) (now (source .entry)) (now (workspace .entry)) (now (scratch .entry))) (zeros (now (scratch .entry))) (now (scratch .entry)) ⌝ }
+    ensures redraws { λ _. ⌜ (drawn? (now (steps .entry)) (redrawAnswer width height (now (steps .entry)) (region x y columns rows) (now (source .entry)) (now (workspace .entry)) (now (scratch .entry))) ≡ true → Redraws width height (stepsIn (now (steps .entry))) (countIn (now (steps .entry))) (region x y columns rows) (now (source .entry)) (now (workspace .entry)) (now (workspace .exit))) ⌝ }
+    ensures valid { λ _. ⌜ (drawn? (now (steps .entry)) (redrawAnswer width height (now (steps .entry)) (region x y columns rows) (now (source .entry)) (now (workspace .entry)) (now (scratch .entry))) ≡ true → AllValid width height (countIn (now (steps .entry))) (now (workspace .exit))) ⌝ }
+{
+    let named = Region {
+        x,
+        y,
+        width: columns,
+        height: rows,
+    };
+    let redrawn = redraw_lines(width, height, steps, named, source, workspace, scratch);
+    *place = redrawn.place as u64;
+    *count = redrawn.count as u64;
+    redrawn.number
+}
+
+// Where layer n lies in a workspace of so many bytes; returns its length, 0 where there is no such layer.
+#[no_mangle]
+pub extern "C" fn twillgoose_layer(
+    width: usize,
+    height: usize,
+    steps: usize,
+    n: usize,
+    workspace: usize,
+    offset: &mut u64,
+) -> u64
+    ensures length { λ r. ⌜ r ≡ viewAt width height steps n workspace .bytes ⌝ }
+    ensures offset { λ _. ⌜ now (offset .exit) ≡ viewAt width height steps n workspace .offset ⌝ }
+{
+    let v = render::views::place(width, height, steps, n, workspace);
+    *offset = v.offset as u64;
+    v.bytes as u64
+}
+
+// What `sheet` prints for a text, stored at the start of out where it fits; returns its length.
+#[no_mangle]
+pub extern "C" fn twillgoose_sheet(text: &[u8], out: &mut [u8]) -> u64
+    ensures length { λ r. ⌜ r ≡ length (printedOf (now (text .entry))) ⌝ }
+    ensures printed { λ _. ⌜ now (out .exit) ≡ cond (leb (length (printedOf (now (text .entry)))) (length (now (out .entry)))) (stored (now (out .entry)) 0 (printedOf (now (text .entry)))) (now (out .entry)) ⌝ }
+{
+    let length = text_answer::answer(text, out);
+    length as u64
+}
