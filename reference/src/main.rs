@@ -87,10 +87,7 @@ fn write_calls(folder: &Path, seed: u64) -> ExitCode {
 /// Two files: a head line, then for each entry its length in decimal, a line feed, and its bytes.
 fn write_texts(folder: &Path, seed: u64) -> ExitCode {
     let mut random = Random::new(seed);
-    let mut all = texts::listed(&mut random);
-    while all.len() < 8000 {
-        all.push(texts::text(&mut random));
-    }
+    let all = texts::many(&mut random, 8000);
     let answers: Vec<Vec<u8>> = all.iter().map(|text| print::sheet(text, Fault::None)).collect();
     for (name, entries) in [("texts", &all), ("answers", &answers)] {
         let head = format!("{} {name}; each is its length in decimal, a line feed, its bytes\n", entries.len());
@@ -104,11 +101,7 @@ fn write_texts(folder: &Path, seed: u64) -> ExitCode {
             return ExitCode::FAILURE;
         }
     }
-    for number in 0..16 {
-        let begin = if number == 0 { "ok\n".to_string() } else { format!("refused\t{number}\t") };
-        println!("{number}\t{}", answers.iter().filter(|answer| answer.starts_with(begin.as_bytes())).count());
-    }
-    println!("{} texts", all.len());
+    print!("{}", texts::by_number(&answers));
     ExitCode::SUCCESS
 }
 

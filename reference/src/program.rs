@@ -19,22 +19,23 @@ fn printed(program: &Path, text: &[u8]) -> std::io::Result<Option<Vec<u8>>> {
     Ok((output.status.success() && output.stderr.is_empty()).then_some(output.stdout))
 }
 
-/// Runs the program on the example, on the ends of the length and on `count` random texts.
+/// Runs the program on `count` texts, the listed ones first, and on one far longer than a sheet may be; says how many answers of each number there were.
 pub fn compare(program: &Path, count: usize, seed: u64) -> std::io::Result<Tally> {
     let mut random = Random::new(seed);
     let mut tally = Tally::default();
-    let mut all = vec![texts::EXAMPLE.into(), Vec::new(), vec![0; 32_768], vec![0; 32_769], vec![b'\n'; 1_000_000]];
-    all.extend((0..count).map(|_| texts::text(&mut random)));
-    for (n, text) in all.iter().enumerate() {
-        let rules = print::sheet(text, Fault::None);
+    let mut all = texts::many(&mut random, count);
+    all.push(vec![b'\n'; 1_000_000]);
+    let answers: Vec<Vec<u8>> = all.iter().map(|text| print::sheet(text, Fault::None)).collect();
+    print!("{}", texts::by_number(&answers));
+    for (n, (text, rules)) in all.iter().zip(&answers).enumerate() {
         let failures = match printed(program, text)? {
-            Some(ours) if ours == rules => Vec::new(),
+            Some(ours) if ours == *rules => Vec::new(),
             ours => {
                 let shown = |bytes: &[u8]| String::from_utf8_lossy(bytes).into_owned();
                 vec![format!(
                     "printed {:?}, rules {:?}, text {:?}",
                     ours.as_deref().map(shown),
-                    shown(&rules),
+                    shown(rules),
                     shown(text)
                 )]
             }

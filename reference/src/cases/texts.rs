@@ -141,3 +141,22 @@ pub fn listed(random: &mut Random) -> Vec<Vec<u8>> {
     }
     all
 }
+
+/// The listed texts, then random ones, `count` in all where that is more.
+pub fn many(random: &mut Random, count: usize) -> Vec<Vec<u8>> {
+    let mut all = listed(random);
+    while all.len() < count {
+        all.push(text(random));
+    }
+    all
+}
+
+/// A line for each number with how many of the answers have it, 0 for `ok`; then how many there are.
+pub fn by_number(answers: &[Vec<u8>]) -> String {
+    let mut said = String::new();
+    for number in 0..16 {
+        let begin = if number == 0 { "ok\n".to_string() } else { format!("refused\t{number}\t") };
+        said += &format!("{number}\t{}\n", answers.iter().filter(|answer| answer.starts_with(begin.as_bytes())).count());
+    }
+    said + &format!("{} texts\n", answers.len())
+}
