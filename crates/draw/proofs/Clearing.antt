@@ -10,11 +10,12 @@ use borrow.Author.Tests.{eqb-true, leb-true}
 use Rattle.window.proofs.Store.{lt-or-le}
 use Rattle.pixel.specs.Alpha.{clear}
 use Rattle.pixel.specs.Bytes.{pixelAt, Painted}
-use Rattle.raster.proofs.Painting.{pixel-same}
+use Rattle.window.proofs.Numbers.{line-end}
+use Rattle.pixel.proofs.Painting.{pixel-same}
 use Rattle.filter.specs.declared.Rect.{Rect}
 use Rattle.filter.specs.Rect.{In}
 use Rattle.filter.specs.Bytes.{size}
-use Rattle.stage.proofs.Sizes.{below, row-ends}
+use Rattle.stage.proofs.Sizes.{row-ends}
 use Rattle.stage.proofs.Places.{layer-bytes}
 use Rattle.draw.specs.Cleared.{Cleared}
 use Rattle.draw.specs.Covers.{covers?}
@@ -52,8 +53,8 @@ cleared-all w h n r d d′ P = record {
       let end : 4 * (y * w) + 4 * w ≤ size w h = row-ends w h y ly in
       let at : n * size w h ≡ 4 * (n * (w * h)) = layer-bytes w h n in
       pixel-same d′ d _ _ (λ c lc. ⊎-elim
-      (λ l. P .before _ (omega (arith, below n k (size w h) l)))
-      (λ l. let l′ : n < k = omega arith in P .after _ (omega (arith, below k n (size w h) l′)))
+      (λ l. P .before _ (omega (arith, line-end (size w h) n k l)))
+      (λ l. let l′ : n < k = omega arith in P .after _ (omega (arith, line-end (size w h) k n l′)))
       (lt-or-le k n));
   long = P .long;
 }

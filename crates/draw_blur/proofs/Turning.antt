@@ -5,11 +5,11 @@ use mathlib.Core.List.{List}
 use mathlib.Core.Logic.{_≢_, ⊎-elim}
 use native.Mathlib.Nat.{mul-le-mul-right}
 use native.Mathlib.Omega.{arith}
-use lib.ListN.{length, getD}
+use lib.ListN.{getD}
 use Rattle.window.specs.Store.{byteAt}
 use Rattle.window.proofs.Store.{lt-or-le}
 use Rattle.pixel.specs.Bytes.{pixelAt}
-use Rattle.raster.proofs.Painting.{pixel-same}
+use Rattle.pixel.proofs.Painting.{pixel-same}
 use Rattle.raster_blur.specs.Place.{Rows}
 use Rattle.filter.specs.Rect.{canvasOf}
 use Rattle.filter.specs.Picture.{Picture}

@@ -4,7 +4,6 @@ ghost use mathlib.Core.Bool.{true};
 ghost use mathlib.Core.Logic.{_⊎_};
 ghost use Prim.Native.Nat.{_+_, _-_, _*_, _≤_, _<_};
 ghost use lib.ListN.{length};
-ghost use Rattle.window.specs.Window.{spread};
 ghost use Rattle.filter.specs.Kinds.{work};
 ghost use Rattle.filter.specs.declared.Primitive.the-variants.{Blur};
 ghost use Rattle.filter.specs.Checks.{allowed?};
@@ -15,27 +14,15 @@ ghost use Rattle.stage.specs.Drawn.{Drawn};
 ghost use Rattle.stage.specs.Strip.{Strip};
 ghost use Rattle.draw_window.specs.Passes.{acrossOf, Worked};
 ghost use Rattle.draw_blur.specs.Blurs.{blurs};
-use draw_window::less;
 use draw_window::reached;
 use filter::Input;
 use filter::Rect;
 use lanes::gather_rows;
 use lanes::spread_rows;
 use window::lesser;
+use window::spread_of;
 
 pub mod lanes; // eight rows at a time, turned into lines of 32 bytes
-
-// How far a blur of d reaches to either side.
-fn reach_of(d: usize) -> usize
-    requires { ⌜ d ≤ 60 ⌝ }
-    ensures { λ r. ⌜ (r ≡ spread d) × (r ≤ 90) ⌝ }
-{
-    if d % 2 == 1 {
-        3 * ((d - 1) / 2)
-    } else {
-        less(3 * (d / 2), 1)
-    }
-}
 
 // The passes of a blur of d along the columns of count lines of n bytes at the start of a buffer. The answer is where the results start:
 // at half, or at 0 where a blur has no passes.
@@ -78,7 +65,7 @@ fn blur_across(
     let top = strip.top;
     let bottom = strip.bottom;
     let width = right - left;
-    let reach = reach_of(d);
+    let reach = spread_of(d);
     let span = reached(w, left, right, reach, reach);
     let places = span.to - span.from;
     let skip = 32 * (left - span.from);
@@ -130,7 +117,7 @@ pub fn draw_blur(
     if rect.bottom <= rect.top {
         return;
     }
-    let reach = reach_of(dy);
+    let reach = spread_of(dy);
     let span = reached(h, rect.top, rect.bottom, reach, reach);
     let rows = Rect {
         left: rect.left,

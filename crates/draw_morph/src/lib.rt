@@ -14,11 +14,11 @@ ghost use Rattle.stage.specs.Strip.{Strip};
 ghost use Rattle.draw_window.specs.Passes.{acrossOf, alongRow, Worked};
 ghost use Rattle.draw_morph.specs.Morphology.{morphology};
 ghost use Rattle.draw_morph.specs.Extremes.{extremes};
-use draw_window::less;
 use draw_window::reached;
 use filter::Input;
 use filter::Rect;
 use raster_morph::Extreme;
+use window::less;
 
 // What a result looks at along a line: the places from `back` before it to `ahead` behind it.
 pub struct Window {

@@ -2,5 +2,4 @@
 pub mod Strokes
 pub mod Shifts
 pub mod Stacks
-pub mod Coefficients
 pub mod Steps

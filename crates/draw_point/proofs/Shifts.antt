@@ -1,11 +1,11 @@
 -- Where a shifted picture is transparent, and where it shows the columns that were loaded. Assumes nothing.
-use mathlib.Core.Path.{_≡_, refl, sym, ap, _∙_}
-use mathlib.Core.Bool.{Bool, true, false, _&&_}
+use mathlib.Core.Path.{_≡_, sym, ap, _∙_}
 use mathlib.Core.List.{List}
 use mathlib.Core.Logic.{_⊎_, inl, inr, ⊎-elim}
 use Prim.Native.Nat.{ℕ, _+_, _-_, _≤_, _<_, min}
 use native.Mathlib.Omega.{arith}
 use borrow.Author.Tests.{le-leb, lt-leb}
+use Rattle.window.proofs.Truths.{and-no}
 use Rattle.window.proofs.Store.{lt-or-le}
 use Rattle.pixel.specs.Alpha.{clear}
 use Rattle.raster.specs.Row.{moved}
@@ -19,16 +19,11 @@ use Rattle.filter.specs.Accepted.{Near}
 use Rattle.stage.specs.Buffers.{Loaded}
 use Rattle.draw_point.proofs.Strokes.{loaded-pixel}
 
--- either test fails
-and-false : (b : Bool) → (b && false) ≡ false
-and-false true = refl
-and-false false = refl
-
 module _ (dx dy : Shift) (p : Picture) (x y : ℕ) where
   -- the row lies above the canvas, or the column left of it
   pub shifted-above : y + dy .minus < dy .plus → shifted dx dy p x y ≡ clear
   unfolding shifted
-  shifted-above l = simp (lt-leb (dy .plus) (y + dy .minus) l, and-false)
+  shifted-above l = simp (lt-leb (dy .plus) (y + dy .minus) l, and-no)
 
   pub shifted-before : x + dx .minus < dx .plus → shifted dx dy p x y ≡ clear
   unfolding shifted

@@ -9,7 +9,7 @@ use Rattle.pixel.specs.declared.Operator.the-variants.{Over}
 use Rattle.pixel.specs.Bytes.{pixelAt, Painted, ValidRow}
 use Rattle.pixel.specs.Composite.{composited, merged}
 use Rattle.pixel.proofs.Composited.{composited-valid}
-use Rattle.raster.proofs.Painting.{painted-as}
+use Rattle.pixel.proofs.Painting.{painted-as}
 use Rattle.filter.specs.declared.Inputs.{Inputs}
 use Rattle.filter.specs.declared.Primitive.the-variants as P
 use Rattle.filter.specs.Picture.{Picture}

@@ -1,12 +1,13 @@
 -- A rule along the rows, and then along the columns, of a picture: the band that is worked gives what the whole picture gives.
 -- Assumes nothing.
-use Prim.Native.Nat.{ℕ, _+_, _-_, _*_, _≤_, _<_, min}
-use mathlib.Core.Path.{_≡_, refl, sym, ap, _∙_, fun-ext}
+use Prim.Native.Nat.{ℕ, _+_, _-_, _*_, _≤_, _<_}
+use mathlib.Core.Path.{_≡_, sym, ap, _∙_, fun-ext}
 use mathlib.Core.List.{List}
 use native.Mathlib.Omega.{arith}
 use lib.ListN.{getD}
 use Rattle.window.specs.Store.{byteAt}
-use Rattle.window.specs.Window.{within, column}
+use Rattle.window.specs.Window.{column}
+use Rattle.window.proofs.Band.{column-is}
 use Rattle.pixel.specs.declared.Pixel.{Pixel}
 use Rattle.pixel.specs.Alpha.{clear}
 use Rattle.filter.specs.declared.Rect.{Rect}
@@ -22,7 +23,7 @@ use Rattle.draw_window.specs.Reached.{Reached}
 use Rattle.draw_window.specs.Passes.{Rule, acrossOf, downOf, alongRow, Worked}
 use Rattle.draw_window.proofs.Channels.{channel, channel-at, channel-clear, pixel-channels, pixel-bytes, across-channel, down-channel, row-channel}
 use Rattle.draw_window.proofs.Rules.{Banded}
-use Rattle.draw_window.proofs.Strips.{column-is, strip-byte}
+use Rattle.draw_window.proofs.Strips.{strip-byte}
 
 blank-channel : (k : ℕ) (p : Pixel) → p ≡ clear → channel k p ≡ 0
 blank-channel k p e = ap (channel k) e ∙ channel-clear k

@@ -9,6 +9,7 @@ use Rattle.window.specs.Window.{column}
 use Rattle.pixel.specs.declared.Pixel.{Pixel}
 use Rattle.pixel.specs.Alpha.{clear}
 use Rattle.pixel.specs.Bytes.{pixelAt}
+use Rattle.pixel.proofs.Painting.{pixel-is}
 use Rattle.filter.specs.Picture.{Picture}
 use Rattle.draw_window.specs.Passes.{Rule, acrossOf, downOf, alongRow, Worked}
 
@@ -21,7 +22,7 @@ channel (suc (suc (suc k))) p = p .a
 
 pub pixel-channels : (p q : Pixel) → ((k : ℕ) → k < 4 → channel k p ≡ channel k q) → p ≡ q
 unfolding channel
-pixel-channels p q e = λ t. record { r = e 0 (omega arith) t; g = e 1 (omega arith) t; b = e 2 (omega arith) t; a = e 3 (omega arith) t }
+pixel-channels p q e = pixel-is p q (e 0 (omega arith)) (e 1 (omega arith)) (e 2 (omega arith)) (e 3 (omega arith))
 
 pub channel-clear : (k : ℕ) → channel k clear ≡ 0
 unfolding channel

@@ -1,30 +1,20 @@
 -- A strip of a picture, row by row, and its bytes as lines. Assumes nothing.
 use Prim.Native.Nat.{ℕ, _+_, _-_, _*_, _/_, _≤_, _<_}
-use mathlib.Core.Path.{_≡_, refl, sym, ap, _∙_, fun-ext}
+use mathlib.Core.Path.{_≡_, sym, ap, _∙_}
 use mathlib.Core.List.{List}
 use mathlib.Core.Logic.{_⊎_, ⊎-elim}
 use native.Mathlib.Nat.{mul-le-mul, mul-le-mul-right}
 use native.Mathlib.Omega.{arith}
 use lib.ListN.{getD}
 use Rattle.window.specs.Store.{byteAt}
-use Rattle.window.specs.Window.{within, column}
 use Rattle.window.proofs.Store.{lt-or-le}
-use Rattle.window.proofs.Band.{within-in, within-out}
 use Rattle.pixel.specs.declared.Pixel.{Pixel}
 use Rattle.pixel.specs.Bytes.{pixelAt, Painted}
-use Rattle.raster.proofs.Painting.{pixel-same}
+use Rattle.pixel.proofs.Painting.{pixel-same}
 use Rattle.filter.specs.Picture.{Picture}
 use Rattle.stage.specs.Strip.{stripAt, Strip}
 use Rattle.draw_window.specs.Reached.{Reached}
 use Rattle.draw_window.proofs.Channels.{channel, channel-at}
-
--- a column by its bytes
-pub column-is : (d : List ℕ) (o n count i : ℕ) (g : ℕ → ℕ) → ((v : ℕ) → v < count → byteAt d o n v i ≡ g v) → column d o n count i ≡ within count g
-unfolding column
-column-is d o n count i g e = fun-ext (λ v. ⊎-elim
-    (λ l. within-in count _ v l ∙ e v l ∙ sym (within-in count g v l))
-    (λ l. within-out count _ v l ∙ sym (within-out count g v l))
-    (lt-or-le v count))
 
 pub strip-none : (q : Picture) (at left right first : ℕ) (d : List ℕ) → Strip q at left right first first d
 strip-none q at left right first d = record { same = λ x y a b c e. absurd (omega arith) }
@@ -61,10 +51,6 @@ strip-painted q f left right first y at d d′ from place S P same = strip-row q
     (λ x a b.
     let e : 4 * (0 + (y - first) * (right - left) + (x - left)) ≡ 0 + 4 * (at + (x - left)) = omega arith in
     ap (pixelAt d′) e ∙ P .inside (at + (x - left)) (omega arith) (omega arith) ∙ same x a b)
-
--- row y of a strip ends in it
-pub row-room : (y first last width : ℕ) → first ≤ y → y < last → (y - first) * width + width ≤ (last - first) * width
-row-room y first last width l m = let k : y - first < last - first = omega arith in omega (arith, mul-le-mul-right width k)
 
 -- the place of a result that starts in one of two halves, counted in pixels
 pub whole-pixels : (r s : ℕ) → (r ≡ 0) ⊎ (r ≡ 4 * s) → 4 * (r / 4) ≡ r

@@ -1,20 +1,13 @@
 // What steps that look around have in common: how much of a line their results look at. The crate's laws say that it is enough.
-ghost use mathlib.Core.Path.{_≡_};
 ghost use Prim.Native.Nat.{_-_, _≤_, _<_};
 ghost use Rattle.draw_window.specs.Reached.{Reached};
+use window::less;
 use window::lesser;
 
 // Places from .. to - 1 of a line.
 pub struct Span {
     pub from: usize,
     pub to: usize,
-}
-
-// a - b, cut at 0.
-pub fn less(a: usize, b: usize) -> usize
-    ensures { λ r. ⌜ r ≡ a - b ⌝ }
-{
-    if a < b { 0 } else { a - b }
 }
 
 // All that the places from .. to - 1 of a line of n places look at, up to `back` places before each and `ahead` behind it.

@@ -2,7 +2,8 @@
 ghost use Prim.Native.Nat.{ℕ, _+_, _*_, _≤_, _<_};
 ghost use lib.ListN.{length};
 ghost use Rattle.window.specs.Store.{byteAt};
-ghost use Rattle.raster_blur.specs.Place.{Apart, Rows};
+ghost use Rattle.window.specs.Ranges.{Apart};
+ghost use Rattle.raster_blur.specs.Place.{Rows};
 ghost use Rattle.raster_blur.specs.Blurred.{Blurred};
 
 #[no_mangle]
@@ -15,7 +16,7 @@ pub extern "C" fn twillgoose_kernel_blur_lines(
     d: usize,
     sums: &mut [u16],
 )
-    requires { ⌜ (a + count * n ≤ length (now buf)) × (b + count * n ≤ length (now buf)) × Apart (count * n) a b ⌝ }
+    requires { ⌜ (a + count * n ≤ length (now buf)) × (b + count * n ≤ length (now buf)) × Apart a (count * n) b (count * n) ⌝ }
     requires { ⌜ (n ≤ length (now sums)) × (count ≤ 65536) × (2 ≤ d) × (d ≤ 60) ⌝ }
     ensures { λ _. ⌜ Blurred d a b n count (now (buf .entry)) (now (buf .exit)) ⌝ }
 {

@@ -5,7 +5,7 @@ ghost use lib.ListN.{length};
 ghost use Rattle.pixel.specs.Arithmetic.{combined};
 ghost use Rattle.pixel.specs.Bytes.{pixelAt, Painted, ValidRow};
 ghost use Rattle.pixel.specs.Matrix.{transformed, saturation, luminance};
-ghost use Rattle.raster_color.specs.Coefficient.{SmallArithmetic, SmallMatrix};
+ghost use Rattle.pixel.specs.Coefficient.{AllowedArithmetic, AllowedMatrix};
 ghost use Rattle.raster_color.specs.Tables.{Combines, Mixes, Unpremultiplies, Weighs};
 ghost use Rattle.kernels.specs.Named.{arithmetic};
 use number::Fixed;
@@ -15,7 +15,7 @@ use pixel::Matrix;
 // Coefficients that are not below zero, in units.
 fn arithmetic_of(k1: u64, k2: u64, k3: u64, k4: u64) -> Arithmetic
     requires { ⌜ (k1 ≤ 16777216) × (k2 ≤ 16777216) × (k3 ≤ 16777216) × (k4 ≤ 16777216) ⌝ }
-    ensures { λ r. ⌜ (r ≡ arithmetic k1 k2 k3 k4) × SmallArithmetic r ⌝ }
+    ensures { λ r. ⌜ (r ≡ arithmetic k1 k2 k3 k4) × AllowedArithmetic r ⌝ }
 {
     Arithmetic {
         k1: Fixed {
@@ -39,7 +39,7 @@ fn arithmetic_of(k1: u64, k2: u64, k3: u64, k4: u64) -> Arithmetic
 
 fn saturation_of(s: u64) -> Matrix
     requires { ⌜ s ≤ 65536 ⌝ }
-    ensures { λ r. ⌜ (r ≡ saturation s) × SmallMatrix r ⌝ }
+    ensures { λ r. ⌜ (r ≡ saturation s) × AllowedMatrix r ⌝ }
 {
     pixel::color_matrix::saturation_matrix(s)
 }

@@ -1,11 +1,11 @@
 // Least and largest of a window of lines.
 ghost use mathlib.Core.Path.{_≡_};
-ghost use mathlib.Core.Bool.{cond};
 ghost use Prim.Native.Nat.{_+_, _*_, _≤_, _<_};
 ghost use lib.ListN.{length};
 ghost use Rattle.window.specs.Window.{column};
 ghost use Rattle.raster_morph.specs.Operation.{extreme};
-ghost use Rattle.raster_morph.specs.Ranges.{Apart, PingPong};
+ghost use Rattle.window.specs.Ranges.{Apart};
+ghost use Rattle.raster_morph.specs.Ranges.{PingPong};
 ghost use Rattle.kernels.specs.Named.{extremeOf};
 use raster_morph::Extreme;
 

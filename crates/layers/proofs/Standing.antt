@@ -6,6 +6,7 @@ use mathlib.Core.List.{List}
 use native.Mathlib.Omega.{arith}
 use lib.ListN.{length}
 use borrow.Author.Tests.{ltb-true}
+use Rattle.window.proofs.Numbers.{line-end}
 use Rattle.filter.specs.declared.Input.{Input}
 use Rattle.filter.specs.declared.Input.the-variants.{Source, SourceAlpha, Layer}
 use Rattle.filter.specs.declared.Step.{Step}
@@ -20,7 +21,6 @@ use Rattle.filter.specs.Checks.{allowed?}
 use Rattle.filter.specs.Earlier.{Earlier, AgreeBefore}
 use Rattle.filter.proofs.Earlier.{replaced-stays}
 use Rattle.stage.specs.Buffers.{stands, Sized}
-use Rattle.stage.proofs.Sizes.{below}
 use Rattle.stage.proofs.Steps.{work-same}
 use Rattle.stage.proofs.Upto.{Upto}
 use Rattle.layers.specs.Ready.{Ready}
@@ -50,5 +50,5 @@ ready-sized w h steps count src ws scr R n l d e = record {
   high = R .sheet .canvas .high;
   steps = omega (arith, R .sheet .few);
   source = R .source;
-  workspace = omega (arith, R .workspace, below count n (size w h) l);
+  workspace = omega (arith, R .workspace, line-end (size w h) count n l);
 }

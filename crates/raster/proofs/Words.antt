@@ -9,13 +9,10 @@ use Rattle.pixel.specs.Bytes.{Painted}
 use Rattle.raster.specs.Word.{packed, unpacked, Packed}
 use Rattle.raster.specs.Row.{alphaOnly}
 use Rattle.raster.specs.Factors.{twice}
-use Rattle.raster.proofs.Painting.{painted-more}
-
-same : (p q : Pixel) → p .r ≡ q .r → p .g ≡ q .g → p .b ≡ q .b → p .a ≡ q .a → p ≡ q
-same p q e0 e1 e2 e3 = λ t. record { r = e0 t; g = e1 t; b = e2 t; a = e3 t }
+use Rattle.pixel.proofs.Painting.{pixel-is, painted-more}
 
 pub unpacked-packed : (p : Pixel) → Bytes p → unpacked (packed p) ≡ p
-unpacked-packed p h = same (unpacked (packed p)) p (omega arith) (omega arith) (omega arith) (omega arith)
+unpacked-packed p h = pixel-is (unpacked (packed p)) p (omega arith) (omega arith) (omega arith) (omega arith)
 
 -- four bytes put together
 pub packed-by : (p : Pixel) (r g b a : ℕ) → (r ≡ p .r) × (r < 256) → (g ≡ p .g) × (g < 256) → (b ≡ p .b) × (b < 256) → (a ≡ p .a) × (a < 256) → Packed p (r + g * 256 + b * 65536 + a * 16777216)

@@ -2,16 +2,15 @@
 use mathlib.Core.Path.{_≡_, sym, ap, _∙_}
 use mathlib.Core.List.{List}
 use mathlib.Core.Logic.{⊎-elim}
-use Prim.Native.Nat.{ℕ, _+_, _-_, _*_, _/_, _%_, _≤_, _<_}
+use Prim.Native.Nat.{ℕ, _-_, _/_, _%_, _≤_, _<_}
 use native.Mathlib.Omega.{arith}
-use lib.ListN.{getD}
 use borrow.Author.Tests.{le-ltb, eq-eqb, ne-eqb}
 use Rattle.window.specs.Store.{Lined}
 use Rattle.window.specs.Window.{column, mean, box, passes, passesOf}
-use Rattle.window.proofs.Store.{lt-or-le}
-use Rattle.raster_blur.specs.Place.{Outside}
+use Rattle.window.proofs.Store.{lt-or-le, lined-outside}
 use Rattle.raster_blur.specs.Blurred.{Blurred}
-use Rattle.raster_blur.proofs.Lines.{within-in, lined-column}
+use Rattle.window.proofs.Band.{within-in}
+use Rattle.raster_blur.proofs.Lines.{lined-column}
 
 -- the passes by the parity of d, as the code has it
 passes-boxes : (count d e short : ℕ) (f : ℕ → ℕ) → 2 ≤ d → e ≡ d / 2 → short ≡ e - (1 - d % 2) → passes count d f ≡ box count e e (box count short e (box count e short f))
@@ -31,12 +30,6 @@ stored-box : (back ahead from to n count : ℕ) (d d′ : List ℕ) → Lined (�
 unfolding box
 stored-box back ahead from to n count d d′ L i h = lined-column _ to n count d d′ L i h
 
-lined-outside : (f : ℕ → ℕ → ℕ) (o n count : ℕ) (d d′ : List ℕ) → Lined f o n count d d′ → (j : ℕ) → Outside (count * n) o j → getD d′ j 0 ≡ getD d j 0
-lined-outside f o n count d d′ L j out = ⊎-elim
-    (λ l. L .before j l)
-    (λ l. ⊎-elim (λ k. let e : j ≡ o + (j - o) = omega arith in absurd (out (j - o) (omega arith) e)) (λ k. L .after j k) (lt-or-le j (o + count * n)))
-    (lt-or-le j o)
-
 pub blurred : (d a b n count e short : ℕ) (s s₁ s₂ s₃ : List ℕ) → 2 ≤ d → e ≡ d / 2 → short ≡ e - (1 - d % 2)
     → Lined (λ v i. mean e short (column s a n count i) v) b n count s s₁
     → Lined (λ v i. mean short e (column s₁ b n count i) v) a n count s₁ s₂
@@ -49,6 +42,6 @@ blurred d a b n count e short s s₁ s₂ s₃ h is less L M N = record {
       let two = stored-box short e b a n count s₁ s₂ M i l in
       N .inside v i k l ∙ sym (within-in count (mean e e (column s₂ a n count i)) v k)
       ∙ ap (λ (f : ℕ → ℕ). box count e e f v) (two ∙ ap (box count short e) one) ∙ sym (ap (λ (f : ℕ → ℕ). f v) (passes-boxes count d e short (column s a n count i) h is less));
-  outside = λ j p q. lined-outside _ b n count s₂ s₃ N j q ∙ lined-outside _ a n count s₁ s₂ M j p ∙ lined-outside _ b n count s s₁ L j q;
+  outside = λ j p q. lined-outside _ b n count s₂ s₃ j N q ∙ lined-outside _ a n count s₁ s₂ j M p ∙ lined-outside _ b n count s s₁ j L q;
   long = N .long ∙ M .long ∙ L .long;
 }

@@ -1,26 +1,13 @@
 -- A reciprocal that is rounded up divides, where the number is so small that the rounding does not count. Assumes nothing.
 use mathlib.Core.Path.{_≡_, ap, _∙_}
 use Prim.Native.Nat.{ℕ, _+_, _-_, _*_, _/_, _≤_, _<_, _^_}
-use native.Mathlib.Nat.{mul-assoc, mul-add, add-mul, mul-right-comm, mul-le-mul, mul-le-mul-right, le-of-mul-le-mul-right, lt-of-mul-lt-mul-right, div-mul-le-self, div-lt-iff-lt-mul, div-eq-of-lt-le, div-div-eq-div-mul, lt-div-mul-add}
+use native.Mathlib.Nat.{mul-assoc, mul-add, mul-le-mul, lt-of-mul-lt-mul-right, div-mul-le-self, div-lt-iff-lt-mul, div-div-eq-div-mul, lt-div-mul-add}
 use native.Mathlib.Omega.{arith}
 use mathlib.Core.Logic.{⊎-elim}
 use lib.Pow.{pow-mono}
+use Rattle.window.proofs.Numbers.{quotient}
 use Rattle.window.proofs.Store.{lt-or-le}
 use Rattle.raster_blur.specs.Reciprocal.{Divides}
-
--- x * size is n * p and less than p more: then x / p is n / size
-quotient : (x n size p e : ℕ) → 0 < size → x * size ≡ n * p + e → e < p → x / p ≡ n / size
-quotient x n size p e pos is small =
-    let q : ℕ = n / size in
-    let below : q * size * p ≤ n * p = mul-le-mul-right p (div-mul-le-self n size) in
-    let turn : q * size * p ≡ q * p * size = mul-right-comm q size p in
-    let over : n < (q + 1) * size = div-lt-iff-lt-mul pos .0 (omega arith) in
-    let next : (n + 1) * p ≤ (q + 1) * size * p = mul-le-mul-right p (omega (arith, over)) in
-    let turn2 : (q + 1) * size * p ≡ (q + 1) * p * size = mul-right-comm (q + 1) size p in
-    let more : (n + 1) * p ≡ n * p + 1 * p = add-mul n 1 p in
-    div-eq-of-lt-le p
-    (le-of-mul-le-mul-right {k = size} (omega (arith, is, below, turn)) pos)
-    (lt-of-mul-lt-mul-right size (omega (arith, is, next, turn2, more, small)))
 
 -- m * size is p and e more, and t * e does not reach p
 by-product : (t size m p e : ℕ) → 0 < size → m * size ≡ p + e → t * e < p → t * m / p ≡ t / size

@@ -14,8 +14,10 @@ use Rattle.window.proofs.Store.{lt-or-le}
 use Rattle.raster_blur.specs.declared.pass.Pass.{Pass}
 use Rattle.raster_blur.specs.Running.{rounded, columns, Ready, Sums, Advanced}
 use Rattle.raster_blur.proofs.Ranges.{filled-as, filled-then}
-use Rattle.raster_blur.proofs.Lines.{column-in, column-lt, line-end, kept-column}
-use Rattle.raster_blur.proofs.Slide.{behind-from, running-slide, rounded-mean, rounded-le}
+use Rattle.window.proofs.Numbers.{line-end}
+use Rattle.raster_blur.proofs.Lines.{column-in, column-lt, kept-column}
+use Rattle.window.proofs.Band.{behind-in}
+use Rattle.raster_blur.proofs.Slide.{running-slide, rounded-mean, rounded-le}
 
 -- each element is a byte, as the borrow checker has it
 abbrev pub Bytes : List ℕ → Type 0
@@ -28,7 +30,7 @@ module _ (p : Pass) (d : List ℕ) (bytes : Bytes d) where
 -- the line that is behind the window at y
 pub leaving : (p : Pass) (d : List ℕ) (i y : ℕ) → p .back < y → y < p .count → behind (p .back + 1) (columns p d i) y ≡ getD d (p .from + (y - p .back - 1) * p .n + i) 0
 leaving p d i y h l =
-    behind-from (p .back + 1) (columns p d i) y (omega arith) ∙ ap (columns p d i) (omega arith) ∙ column-in d (p .from) (p .n) (p .count) i (y - p .back - 1) (omega arith)
+    behind-in (p .back + 1) (columns p d i) y (omega arith) ∙ ap (columns p d i) (omega arith) ∙ column-in d (p .from) (p .n) (p .count) i (y - p .back - 1) (omega arith)
 
 -- the sum of column i after line y
 abbrev pub next : Pass → List ℕ → ℕ → ℕ → ℕ

@@ -5,30 +5,21 @@ use Prim.Native.Nat.{ℕ, zero, suc, _+_, _-_, _*_, _/_, _≤_, _<_}
 use native.Mathlib.Nat.{add-suc}
 use native.Mathlib.Numerals.{add-one}
 use native.Mathlib.Omega.{arith}
-use borrow.Author.Tests.{le-leb, lt-leb}
 use Rattle.window.specs.Window.{fold, behind, over, mean}
 use Rattle.window.proofs.Store.{lt-or-le}
+use Rattle.window.proofs.Band.{behind-in, behind-out}
 use Rattle.raster_blur.specs.Running.{running, rounded}
-
--- the places before the line's start, and from it on
-pub behind-before : (back : ℕ) (f : ℕ → ℕ) (i : ℕ) → i < back → behind back f i ≡ 0
-unfolding behind
-behind-before back f i h = simp (lt-leb _ _ h)
-
-pub behind-from : (back : ℕ) (f : ℕ → ℕ) (i : ℕ) → back ≤ i → behind back f i ≡ f (i - back)
-unfolding behind
-behind-from back f i h = simp (le-leb _ _ h)
 
 behind-suc : (back : ℕ) (f : ℕ → ℕ) (i : ℕ) → behind (back + 1) f (i + 1) ≡ behind back f i
 behind-suc back f i = ⊎-elim
-    (λ h. behind-before (back + 1) f (i + 1) (omega arith) ∙ sym (behind-before back f i h))
-    (λ h. behind-from (back + 1) f (i + 1) (omega arith) ∙ ap f (omega arith) ∙ sym (behind-from back f i h))
+    (λ h. behind-out (back + 1) f (i + 1) (omega arith) ∙ sym (behind-out back f i h))
+    (λ h. behind-in (back + 1) f (i + 1) (omega arith) ∙ ap f (omega arith) ∙ sym (behind-in back f i h))
     (lt-or-le i back)
 
 behind-lt : (back : ℕ) (f : ℕ → ℕ) (i : ℕ) → ((x : ℕ) → f x < 256) → behind back f i < 256
 behind-lt back f i h = ⊎-elim
-    (λ l. omega (arith, behind-before back f i l))
-    (λ l. omega (arith, behind-from back f i l, h (i - back)))
+    (λ l. omega (arith, behind-out back f i l))
+    (λ l. omega (arith, behind-in back f i l, h (i - back)))
     (lt-or-le i back)
 
 -- the next window of m places: the first goes, and one comes
@@ -57,14 +48,14 @@ fold-le g (suc m) h = omega (arith, fold-le g m h, h m)
 none : (b : ℕ) (f : ℕ → ℕ) (m : ℕ) → m ≤ b → fold _+_ 0 m (λ t. behind b f (0 + t)) ≡ 0
 unfolding fold
 none b f zero h = refl
-none b f (suc m) h = omega (arith, none b f m (omega arith), behind-before b f (0 + m) (omega arith))
+none b f (suc m) h = omega (arith, none b f m (omega arith), behind-out b f (0 + m) (omega arith))
 
 first : (b : ℕ) (f : ℕ → ℕ) (m : ℕ) → fold _+_ 0 (b + m) (λ t. behind b f (0 + t)) ≡ fold _+_ 0 m f
 unfolding fold
 first b f zero = none b f (b + 0) (omega arith)
 first b f (suc m) =
     let e : f (0 + (b + m) - b) ≡ f m = ap f (omega arith) in
-    rw (add-suc b m) (omega (arith, first b f m, behind-from b f (0 + (b + m)) (omega arith), e))
+    rw (add-suc b m) (omega (arith, first b f m, behind-in b f (0 + (b + m)) (omega arith), e))
 
 module _ (back ahead : ℕ) (f : ℕ → ℕ) where
   pub running-start : running back ahead f 0 ≡ fold _+_ 0 ahead f
@@ -78,7 +69,7 @@ module _ (back ahead : ℕ) (f : ℕ → ℕ) where
   unfolding running
   running-slide y =
       let e : f (y + (back + ahead + 1) - (back + 1)) ≡ f (y + ahead) = ap f (omega arith) in
-      omega (arith, slide (behind (back + 1) f) (back + ahead + 1) y, behind-from (back + 1) f (y + (back + ahead + 1)) (omega arith), e)
+      omega (arith, slide (behind (back + 1) f) (back + ahead + 1) y, behind-in (back + 1) f (y + (back + ahead + 1)) (omega arith), e)
 
   pub running-over : (y : ℕ) → running back ahead f (y + 1) ≡ over _+_ 0 back ahead f y
   unfolding running

@@ -8,7 +8,7 @@ use lib.ListN.{length, set}
 use Rattle.window.specs.Store.{Filled}
 use Rattle.window.proofs.Store.{lt-or-le, filled-none, filled-more}
 use Rattle.raster_blur.specs.Place.{Rows}
-use Rattle.raster_blur.proofs.Lines.{line-end}
+use Rattle.window.proofs.Numbers.{line-end}
 
 filled-end : {f : ℕ → ℕ} {from i j : ℕ} {d d′ : List ℕ} → Filled f from i d d′ → j ≡ i → Filled f from j d d′
 filled-end F e = rw e F

@@ -6,14 +6,6 @@ use Prim.Native.Nat.{ℕ, _+_, _*_, _<_}
 use lib.ListN.{length, getD}
 use Rattle.window.specs.Store.{byteAt}
 
--- the size places from a on and those from b on have none in common
-abbrev pub Apart : ℕ → ℕ → ℕ → Type 0
-Apart size a b = (i j : ℕ) → i < size → j < size → a + i ≢ b + j
-
--- j is none of the size places from a on
-abbrev pub Outside : ℕ → ℕ → ℕ → Type 0
-Outside size a j = (i : ℕ) → i < size → j ≢ a + i
-
 -- d′ is d with f v i stored as byte i of row v, for rows 0 up to rows of n bytes, where row v starts at base + v * stride
 pub record Rows (f : ℕ → ℕ → ℕ) (base stride n rows : ℕ) (d d′ : List ℕ) : Type 0 where
   pub inside : (v i : ℕ) → v < rows → i < n → byteAt d′ base stride v i ≡ f v i

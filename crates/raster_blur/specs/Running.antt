@@ -6,7 +6,7 @@ use lib.ListN.{length, getD}
 use Rattle.window.specs.Store.{byteAt}
 use Rattle.window.specs.Window.{fold, behind, column, mean}
 use Rattle.raster_blur.specs.declared.pass.Pass.{Pass}
-use Rattle.raster_blur.specs.Place.{Apart}
+use Rattle.window.specs.Ranges.{Apart}
 use Rattle.raster_blur.specs.Reciprocal.{Divides}
 
 -- the sum over the window that the pass holds before it comes to place y: y - back - 1 .. y + ahead - 1
@@ -25,7 +25,7 @@ columns p d = column d (p .from) (p .n) (p .count)
 pub record Ready (p : Pass) (d s : List ℕ) : Type 0 where
   pub source : p .from + p .count * p .n ≤ length d
   pub target : p .to + p .count * p .n ≤ length d
-  pub apart : Apart (p .count * p .n) (p .from) (p .to)
+  pub apart : Apart (p .from) (p .count * p .n) (p .to) (p .count * p .n)
   pub sums : p .n ≤ length s
   pub limit : p .back + p .ahead + 1 ≤ 61
   pub few : p .count ≤ 65536

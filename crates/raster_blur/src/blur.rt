@@ -1,6 +1,6 @@
 ghost use Prim.Native.Nat.{_+_, _*_, _≤_};
 ghost use lib.ListN.{length};
-ghost use Rattle.raster_blur.specs.Place.{Apart};
+ghost use Rattle.window.specs.Ranges.{Apart};
 ghost use Rattle.raster_blur.specs.Blurred.{Blurred};
 use crate::pass::box_pass;
 
@@ -14,7 +14,7 @@ pub fn blur_lines(
     d: usize,
     sums: &mut [u16],
 )
-    requires { ⌜ (a + count * n ≤ length (now buf)) × (b + count * n ≤ length (now buf)) × Apart (count * n) a b ⌝ }
+    requires { ⌜ (a + count * n ≤ length (now buf)) × (b + count * n ≤ length (now buf)) × Apart a (count * n) b (count * n) ⌝ }
     requires { ⌜ (n ≤ length (now sums)) × (count ≤ 65536) × (2 ≤ d) × (d ≤ 60) ⌝ }
     ensures { λ _. ⌜ Blurred d a b n count (now (buf .entry)) (now (buf .exit)) ⌝ }
 {

@@ -1,15 +1,15 @@
-ghost use mathlib.Core.Path.{_≡_};
-ghost use Prim.Native.Nat.{ℕ, _+_, _-_, _*_, _/_, _≤_, _<_, max};
+ghost use Prim.Native.Nat.{ℕ, _+_, _-_, _*_, _/_, _≤_, _<_};
 ghost use lib.ListN.{length, getD};
 ghost use Rattle.window.specs.Store.{Filled, Lined};
 ghost use Rattle.window.specs.Window.{behind, column, mean};
-ghost use Rattle.raster_blur.specs.Place.{Apart};
+ghost use Rattle.window.specs.Ranges.{Apart};
 ghost use Rattle.raster_blur.specs.Running.{columns, Ready, Sums, Advanced};
 use crate::reciprocal::reciprocal_of;
 use crate::sums::gain;
 use crate::sums::lose;
 use crate::sums::means;
 use crate::sums::step;
+use window::greater;
 use window::lesser;
 
 // A pass over count lines of n bytes: the means of those at from go to those at to.
@@ -132,7 +132,7 @@ pub fn box_pass(
     ahead: usize,
     sums: &mut [u16],
 )
-    requires { ⌜ (from + count * n ≤ length (now buf)) × (to + count * n ≤ length (now buf)) × Apart (count * n) from to ⌝ }
+    requires { ⌜ (from + count * n ≤ length (now buf)) × (to + count * n ≤ length (now buf)) × Apart from (count * n) to (count * n) ⌝ }
     requires { ⌜ (n ≤ length (now sums)) × (count ≤ 65536) × (1 ≤ back + ahead) × (back + ahead + 1 ≤ 61) ⌝ }
     ensures { λ _. ⌜ Lined (λ v i. mean back ahead (column (now (buf .entry)) from n count i) v) to n count (now (buf .entry)) (now (buf .exit)) ⌝ }
 {
@@ -154,10 +154,4 @@ pub fn box_pass(
     edge_lines(buf, p, 0, y, sums);
     inner_lines(buf, p, y, z, sums);
     edge_lines(buf, p, z, count, sums);
-}
-
-fn greater(a: usize, b: usize) -> usize
-    ensures { λ r. ⌜ r ≡ max a b ⌝ }
-{
-    if a < b { b } else { a }
 }

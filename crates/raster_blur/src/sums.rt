@@ -3,7 +3,7 @@ ghost use Prim.Native.Nat.{ℕ, _+_, _-_, _*_, _/_, _≤_, _<_};
 ghost use lib.ListN.{length, getD};
 ghost use Rattle.window.specs.Store.{Filled};
 ghost use Rattle.raster_blur.specs.Reciprocal.{Divides};
-ghost use Rattle.raster_blur.specs.Place.{Apart};
+ghost use Rattle.window.specs.Ranges.{Apart};
 use crate::reciprocal::mean;
 
 fn wide(x: u8) -> u16
@@ -58,7 +58,7 @@ pub fn step(
     size: usize,
 )
     requires { ⌜ (p + n ≤ length (now buf)) × (q + n ≤ length (now buf)) × (r + n ≤ length (now buf)) × (n ≤ length (now sums)) × Divides mul shift size ⌝ }
-    requires { ⌜ Apart n p r × Apart n q r ⌝ }
+    requires { ⌜ Apart p n r n × Apart q n r n ⌝ }
     requires { ⌜ ((i : ℕ) → i < n → (getD (now sums) i 0 < 65280) × (getD (now buf) (q + i) 0 ≤ getD (now sums) i 0 + getD (now buf) (p + i) 0) × (getD (now sums) i 0 + getD (now buf) (p + i) 0 - getD (now buf) (q + i) 0 ≤ 255 * size + size / 2)) ⌝ }
     ensures { λ _. ⌜ Filled (λ i. getD (now (sums .entry)) i 0 + getD (now (buf .entry)) (p + i) 0 - getD (now (buf .entry)) (q + i) 0) 0 n (now (sums .entry)) (now (sums .exit)) ⌝ }
     ensures { λ _. ⌜ Filled (λ j. (getD (now (sums .entry)) (j - r) 0 + getD (now (buf .entry)) (p + (j - r)) 0 - getD (now (buf .entry)) (q + (j - r)) 0) / size) r (r + n) (now (buf .entry)) (now (buf .exit)) ⌝ }

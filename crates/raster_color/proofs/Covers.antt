@@ -2,7 +2,7 @@
 use mathlib.Core.Path.{_≡_, ap, _∙_}
 use mathlib.Core.List.{List}
 use Prim.Native.Nat.{ℕ, _+_, _-_, _*_, _/_, _%_, _≤_, _<_}
-use native.Mathlib.Nat.{mul-le-mul, add-mul-mod-self-right, mod-eq-of-lt}
+use native.Mathlib.Nat.{add-mul-mod-self-right, mod-eq-of-lt}
 use native.Mathlib.Omega.{arith}
 use lib.ListN.{length, getD}
 use Rattle.window.specs.Store.{Filled}
@@ -12,13 +12,10 @@ use Rattle.pixel.specs.Alpha.{pixel, premultiplied}
 use Rattle.pixel.specs.Matrix.{transformed}
 use Rattle.pixel.specs.Bytes.{pixelAt, Painted}
 use Rattle.raster_color.specs.Code.{factors, covered, mixed, wordAt}
-use Rattle.raster_color.proofs.Painted.{pixel-by}
+use Rattle.pixel.proofs.Painting.{pixel-is, pixel-by}
 
 pub by-255 : (n : ℕ) → n ≤ 65025 → (n + 128 + (n + 128) / 256) / 256 ≡ (n + 127) / 255
 by-255 n h = omega arith
-
-pub byte-product : (u a : ℕ) → u < 256 → a < 256 → u * a ≤ 65025
-byte-product u a h k = let i : u ≤ 255 = omega arith in let j : a ≤ 255 = omega arith in mul-le-mul i j
 
 opaque : (a : ℕ) → premultiplied a 255 ≡ a
 opaque a = omega arith
@@ -39,7 +36,7 @@ plain-factors a l =
     let e1 : w / 256 % 256 ≡ a = low-byte (w / 256) (a + 65280) a (omega arith) l in
     let e2 : w / 65536 % 256 ≡ a = low-byte (w / 65536) 255 a (omega arith) l in
     let e3 : w / 16777216 ≡ 255 = omega arith in
-    λ t. record { r = e0 t; g = e1 t; b = e2 t; a = e3 t }
+    pixel-is _ (factors a) e0 e1 e2 e3
 
 pub word-factors : (a v : ℕ) → a < 256 → v ≡ a * 16843009 + (255 - a) * 16777216 → pixel (v % 256) (v / 256 % 256) (v / 65536 % 256) (v / 16777216) ≡ factors a
 word-factors a v l e = let q : v ≡ a * 65793 + 4278190080 = omega arith in rw q (plain-factors a l)

@@ -5,9 +5,10 @@ use Prim.Native.Nat.{ℕ, _+_, _-_, _≤_, _<_, min, max}
 use native.Mathlib.Omega.{arith}
 use borrow.Author.Tests.{lt-ltb, le-ltb}
 use Rattle.window.specs.Window.{fold}
+use Rattle.window.proofs.Band.{fold-same}
 use Rattle.window.proofs.Store.{lt-or-le}
 use Rattle.raster_morph.specs.Growth.{cut, earlier, later}
-use Rattle.raster_morph.proofs.Folds.{Semilattice, fold-ext, fold-join}
+use Rattle.raster_morph.proofs.Folds.{Semilattice, fold-join}
 
 pub earlier-is : (s v : ℕ) → ((v < s) × (earlier s v ≡ v)) ⊎ ((s ≤ v) × (earlier s v ≡ v - s))
 unfolding earlier
@@ -31,7 +32,7 @@ module _ (op : ℕ → ℕ → ℕ) (e : ℕ) (S : Semilattice op) (f : ℕ → 
   span-join : (lo lo′ hi hi′ : ℕ) → lo ≤ lo′ → lo′ ≤ hi → hi ≤ hi′ → op (span lo hi) (span lo′ hi′) ≡ span lo hi′
   span-join lo lo′ hi hi′ a b c =
       let q : max (hi - lo) (lo′ - lo + (hi′ - lo′)) ≡ hi′ - lo = omega arith in
-      ap (op (span lo hi)) (fold-ext op e (hi′ - lo′) (λ t. f (lo′ + t)) (λ t. f (lo + (lo′ - lo + t))) (λ t l. ap f (omega arith)))
+      ap (op (span lo hi)) (fold-same op e (hi′ - lo′) (λ t. f (lo′ + t)) (λ t. f (lo + (lo′ - lo + t))) (λ t l. ap f (omega arith)))
       ∙ rw q at (fold-join op e S (hi - lo) (lo′ - lo) (hi′ - lo′) (λ t. f (lo + t)) (omega arith))
 
   module _ (count p q s t v : ℕ) (among : v < count) (hs : s ≤ p + 1) (ht : t ≤ q + 1) (both : s + t ≤ p + q + 1) where

@@ -5,12 +5,13 @@ use Prim.Native.Nat.{ℕ, _+_, _-_, _≤_, _<_, min, max}
 use native.Mathlib.Omega.{arith}
 use borrow.Author.Tests.{lt-ltb, le-ltb, le-leb, lt-leb}
 use Rattle.window.specs.Window.{behind, within, least, largest}
+use Rattle.window.proofs.Band.{fold-same}
 use Rattle.window.proofs.Store.{lt-or-le}
 use Rattle.raster_morph.specs.declared.Extreme.{Extreme}
 use Rattle.raster_morph.specs.declared.Extreme.the-variants.{Least, Largest}
 use Rattle.raster_morph.specs.Operation.{operation, start, extreme}
 use Rattle.raster_morph.specs.Growth.{cut, edged}
-use Rattle.raster_morph.proofs.Folds.{Semilattice, fold-ext, fold-absorb, fold-trim}
+use Rattle.raster_morph.proofs.Folds.{Semilattice, fold-absorb, fold-trim}
 
 -- the extremes are the least and the largest of `window`
 pub extreme-least : (back ahead : ℕ) (f : ℕ → ℕ) (x : ℕ) → extreme Least back ahead f x ≡ least back ahead f x
@@ -68,7 +69,7 @@ module _ (back ahead count : ℕ) (f : ℕ → ℕ) (v : ℕ) (among : v < count
   unfolding cut
   least-whole h l =
       let q : min count (v + ahead + 1) - (v - back) ≡ back + ahead + 1 = omega arith in
-      rw q (fold-ext min 255 (back + ahead + 1) read (λ t. f (v - back + t)) (λ t g. read-in t (omega arith) (omega arith) ∙ ap f (omega arith)))
+      rw q (fold-same min 255 (back + ahead + 1) read (λ t. f (v - back + t)) (λ t g. read-in t (omega arith) (omega arith) ∙ ap f (omega arith)))
 
   -- 0 never exceeds a byte
   largest-cut : largest back ahead (within count f) v ≡ cut max 0 back ahead count f v
@@ -78,7 +79,7 @@ module _ (back ahead count : ℕ) (f : ℕ → ℕ) (v : ℕ) (among : v < count
       let r = v + ahead + 1 - min count (v + ahead + 1) in
       let q : back + ahead + 1 ≡ back - v + m + r = omega arith in
       rw q (fold-trim max 0 max-lattice (back - v) m r read (λ t h. read-before t (omega arith)) (λ t h. read-past (back - v + m + t) (omega arith))
-      ∙ fold-ext max 0 m (λ t. read (back - v + t)) (λ t. f (v - back + t)) (λ t h. read-in (back - v + t) (omega arith) (omega arith) ∙ ap f (omega arith)))
+      ∙ fold-same max 0 m (λ t. read (back - v + t)) (λ t. f (v - back + t)) (λ t h. read-in (back - v + t) (omega arith) (omega arith) ∙ ap f (omega arith)))
 
 -- the definition's window is the cut one, with 0 for the least where the window leaves the lines
 pub extreme-cut : (op : Extreme) (back ahead count : ℕ) (f : ℕ → ℕ) (v : ℕ) → v < count

@@ -11,11 +11,6 @@ pub record Semilattice (op : ℕ → ℕ → ℕ) : Type 0 where
   pub comm : (x y : ℕ) → op x y ≡ op y x
   pub idem : (x : ℕ) → op x x ≡ x
 
-pub fold-ext : (op : ℕ → ℕ → ℕ) (e n : ℕ) (f g : ℕ → ℕ) → ((t : ℕ) → t < n → f t ≡ g t) → fold op e n f ≡ fold op e n g
-unfolding fold
-fold-ext op e zero f g h = refl
-fold-ext op e (suc n) f g h = ap₂ op (fold-ext op e n f g (λ t l. h t (omega arith))) (h n (omega arith))
-
 module _ (op : ℕ → ℕ → ℕ) (e : ℕ) (S : Semilattice op) where
   -- x taken in twice is x taken in once
   twice : (x y : ℕ) → op (op x y) y ≡ op x y

@@ -9,7 +9,7 @@ use borrow.Author.Tests.{lt-ltb, le-ltb, le-leb, lt-leb}
 use lib.ListN.{getD}
 use Rattle.window.specs.Store.{Filled, Lined, byteAt}
 use Rattle.window.specs.Window.{column}
-use Rattle.window.proofs.Store.{lt-or-le}
+use Rattle.window.proofs.Store.{lt-or-le, lined-outside}
 use Rattle.raster_morph.specs.declared.Extreme.{Extreme}
 use Rattle.raster_morph.specs.declared.Extreme.the-variants.{Least, Largest}
 use Rattle.raster_morph.specs.Operation.{operation, start, extreme}
@@ -17,7 +17,7 @@ use Rattle.raster_morph.specs.Ranges.{PingPong}
 use Rattle.raster_morph.specs.Growth.{windows, edged, edgedLine, Widened}
 use Rattle.raster_morph.proofs.Cuts.{cut-one, cut-limit}
 use Rattle.raster_morph.proofs.Edges.{start-byte, extreme-cut}
-use Rattle.raster_morph.proofs.Lines.{line-in, lined-off}
+use Rattle.raster_morph.proofs.Lines.{line-in}
 
 -- each line is its own window
 pub pingpong-start : (op : Extreme) (a b n count : ℕ) (d : List ℕ) → ((j : ℕ) → getD d j 0 < 256) → PingPong (windows op d a n count 0 0) a b n count a d d
@@ -60,7 +60,7 @@ pingpong-edged op a b n count back ahead r d d₁ d₂ W L = record {
   inside = λ v i h l. L .inside v i h l
       ∙ ap (edged op back ahead count v) (W .inside v i h l ∙ cut-limit (operation op) (start op) back ahead count (λ w. byteAt d a n w i) v h)
       ∙ sym (extreme-cut op back ahead count (λ w. byteAt d a n w i) v h);
-  outside = λ j k m. lined-off _ _ _ _ _ _ j L (⊎-elim (λ e. rw e k) (λ e. rw e m) (W .place)) ∙ W .outside j k m;
+  outside = λ j k m. lined-outside _ _ _ _ _ _ j L (⊎-elim (λ e. rw e k) (λ e. rw e m) (W .place)) ∙ W .outside j k m;
   long = L .long ∙ W .long;
 }
 

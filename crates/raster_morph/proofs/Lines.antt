@@ -7,9 +7,9 @@ use native.Mathlib.Nat.{mul-le-mul-right}
 use native.Mathlib.Omega.{arith}
 use lib.ListN.{getD}
 use Rattle.window.specs.Store.{Filled, Lined, byteAt}
-use Rattle.window.proofs.Store.{lt-or-le}
+use Rattle.window.proofs.Store.{lt-or-le, lined-outside}
 use Rattle.raster_morph.specs.Operation.{shifted}
-use Rattle.raster_morph.specs.Ranges.{Outside, Apart}
+use Rattle.window.specs.Ranges.{Apart}
 use Rattle.raster_morph.specs.Growth.{earlier, later, paired}
 use Rattle.raster_morph.proofs.Cuts.{earlier-is, later-is}
 
@@ -38,17 +38,13 @@ lined-run f g o n x r d d₁ d₂ L F same = record {
   long = F .long ∙ L .long;
 }
 
--- the bytes outside of the lines
-pub lined-off : (f : ℕ → ℕ → ℕ) (o n count : ℕ) (d d′ : List ℕ) (j : ℕ) → Lined f o n count d d′ → Outside o (count * n) j → getD d′ j 0 ≡ getD d j 0
-lined-off f o n count d d′ j L = ⊎-elim (L .before j) (L .after j)
-
 -- lines that lie apart from those that are stored are as they were
 pub source : (f : ℕ → ℕ → ℕ) (from to n count x v i : ℕ) (d d′ : List ℕ) → Apart from (count * n) to (count * n) → x ≤ count → Lined f to n x d d′ → v < count → i < n
     → byteAt d′ from n v i ≡ byteAt d from n v i
 source f from to n count x v i d d′ apart fits L h l =
     let k = line-in n count v i h l in
     let p : x * n ≤ count * n = mul-le-mul-right n fits in
-    lined-off _ _ _ _ _ _ (from + v * n + i) L (⊎-elim (λ g. inl (omega (arith, k))) (λ g. inr (omega (arith, p))) apart)
+    lined-outside _ _ _ _ _ _ (from + v * n + i) L (⊎-elim (λ g. inl (omega (arith, k))) (λ g. inr (omega (arith, p))) apart)
 
 -- The lines x up to x + r at `to`, each from the lines w and w + u at `from` counted on with it, whose bytes are stored as one range.
 module _ (op : ℕ → ℕ → ℕ) (from to n count s t x r w u : ℕ) (d d₁ d₂ : List ℕ) (apart : Apart from (count * n) to (count * n)) (fits : x + r ≤ count) (reads : w + u + r ≤ count)

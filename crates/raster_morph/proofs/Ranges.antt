@@ -8,7 +8,7 @@ use lib.ListN.{length, getD, set}
 use Rattle.window.specs.Store.{Filled}
 use Rattle.window.proofs.Store.{filled-none, filled-more}
 use Rattle.raster_morph.specs.Operation.{shifted, four}
-use Rattle.raster_morph.specs.Ranges.{Apart}
+use Rattle.window.specs.Ranges.{Apart}
 
 -- nothing is stored yet
 pub filled-start : (f : ℕ → ℕ) (from to : ℕ) (d : List ℕ) → to ≡ from → Filled f from to d d

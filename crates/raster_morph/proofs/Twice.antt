@@ -6,7 +6,8 @@ use Prim.Native.Nat.{ℕ, _+_, _-_, _*_, _≤_, _<_}
 use native.Mathlib.Omega.{arith}
 use lib.ListN.{length}
 use Rattle.window.specs.Store.{Filled, Lined, byteAt}
-use Rattle.raster_morph.specs.Ranges.{Apart, Readable}
+use Rattle.window.specs.Ranges.{Apart}
+use Rattle.raster_morph.specs.Ranges.{Readable}
 use Rattle.raster_morph.specs.Operation.{four}
 use Rattle.raster_morph.specs.Growth.{earlier, later, paired, pairedTwice}
 use Rattle.raster_morph.proofs.Cuts.{earlier-in, later-in}

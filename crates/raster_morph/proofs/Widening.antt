@@ -4,12 +4,12 @@ use mathlib.Core.List.{List}
 use Prim.Native.Nat.{ℕ, _+_, _-_, _≤_, _<_}
 use native.Mathlib.Omega.{arith}
 use Rattle.window.specs.Store.{Lined}
+use Rattle.window.proofs.Store.{lined-outside}
 use Rattle.raster_morph.specs.declared.Extreme.{Extreme}
 use Rattle.raster_morph.specs.Operation.{operation, start}
 use Rattle.raster_morph.specs.Growth.{cut, earlier, later, paired, pairedTwice, Holds, Widened, Towards, Stretch}
 use Rattle.raster_morph.proofs.Cuts.{earlier-in, later-in, cut-grow}
 use Rattle.raster_morph.proofs.Edges.{lattice}
-use Rattle.raster_morph.proofs.Lines.{lined-off}
 
 -- two windows that reach p and q make one that reaches p′ and q′
 grow-cut : (op : Extreme) (p q back ahead p′ q′ count : ℕ) (f : ℕ → ℕ) (v : ℕ) → Stretch p q back ahead p′ q′ → v < count
@@ -38,7 +38,7 @@ pub widened-once : (op : Extreme) (p q back ahead p₁ q₁ from to n count : �
     → Lined (paired (operation op) d from n count (p₁ - p) (q₁ - q)) to n count d d′ → Widened op p q p₁ q₁ from to n count d d′
 widened-once op p q back ahead p₁ q₁ from to n count d d′ S L = record {
   holds = λ f H v i h l. L .inside v i h l ∙ paired-holds op p q back ahead p₁ q₁ from n count d f S H v i h l;
-  off = λ j o. lined-off _ _ _ _ _ _ j L o;
+  off = λ j o. lined-outside _ _ _ _ _ _ j L o;
   long = L .long;
 }
 
@@ -46,7 +46,7 @@ pub widened-twice : (op : Extreme) (p q back ahead p₁ q₁ p₂ q₂ from to n
     → Lined (pairedTwice (operation op) d from n count (p₁ - p) (q₁ - q) (p₂ - p₁) (q₂ - q₁)) to n count d d′ → Widened op p q p₂ q₂ from to n count d d′
 widened-twice op p q back ahead p₁ q₁ p₂ q₂ from to n count d d′ S T L = record {
   holds = λ f H v i h l. L .inside v i h l ∙ twice-holds op p q back ahead p₁ q₁ from n count d f S H p₂ q₂ T v i h l;
-  off = λ j o. lined-off _ _ _ _ _ _ j L o;
+  off = λ j o. lined-outside _ _ _ _ _ _ j L o;
   long = L .long;
 }
 

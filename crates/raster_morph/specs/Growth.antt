@@ -10,7 +10,7 @@ use Rattle.window.specs.Store.{byteAt}
 use Rattle.raster_morph.specs.declared.Extreme.{Extreme}
 use Rattle.raster_morph.specs.declared.Extreme.the-variants.{Least, Largest}
 use Rattle.raster_morph.specs.Operation.{operation, start}
-use Rattle.raster_morph.specs.Ranges.{Outside}
+use Rattle.window.specs.Ranges.{Outside}
 
 -- the places x - back .. x + ahead that lie among the first count, put together
 unfoldable pub cut : (ℕ → ℕ → ℕ) → ℕ → ℕ → ℕ → ℕ → (ℕ → ℕ) → ℕ → ℕ

@@ -5,15 +5,8 @@ use mathlib.Core.Path.{_≡_}
 use mathlib.Core.Logic.{_⊎_}
 use mathlib.Core.List.{List}
 use lib.ListN.{length, getD}
+use Rattle.window.specs.Ranges.{Outside, Apart}
 use Rattle.window.specs.Store.{byteAt}
-
--- the index j lies outside the m bytes from o on
-abbrev pub Outside : ℕ → ℕ → ℕ → Type 0
-Outside o m j = (j < o) ⊎ (o + m ≤ j)
-
--- the m bytes from o on and the k bytes from p on have none in common
-abbrev pub Apart : ℕ → ℕ → ℕ → ℕ → Type 0
-Apart o m p k = (o + m ≤ p) ⊎ (p + k ≤ o)
 
 -- the m bytes from w on lie in d, apart from the m bytes from `to` on
 abbrev pub Readable : ℕ → ℕ → ℕ → List ℕ → Type 0

@@ -4,7 +4,8 @@ ghost use Prim.Native.Nat.{_+_, _≤_, min, max};
 ghost use lib.ListN.{length};
 ghost use Rattle.window.specs.Store.{Filled};
 ghost use Rattle.raster_morph.specs.Operation.{operation, shifted, four};
-ghost use Rattle.raster_morph.specs.Ranges.{Apart, Readable};
+ghost use Rattle.window.specs.Ranges.{Apart};
+ghost use Rattle.raster_morph.specs.Ranges.{Readable};
 use super::Extreme;
 
 pub fn lesser_byte(x: u8, y: u8) -> u8

@@ -1,19 +1,12 @@
 // Windows that grow until they reach as far as is asked.
-ghost use mathlib.Core.Path.{_≡_};
-ghost use Prim.Native.Nat.{_+_, _*_, _≤_, _<_, max};
+ghost use Prim.Native.Nat.{_+_, _*_, _≤_, _<_};
 ghost use lib.ListN.{length};
-ghost use Rattle.raster_morph.specs.Ranges.{Apart, PingPong};
+ghost use Rattle.window.specs.Ranges.{Apart};
+ghost use Rattle.raster_morph.specs.Ranges.{PingPong};
 ghost use Rattle.raster_morph.specs.Growth.{Stretch, Towards, Widened, windows};
 use super::Extreme;
 use super::line::fold_lines;
 use super::line::fold_lines_twice;
-
-// The larger of two.
-pub fn larger(a: usize, b: usize) -> usize
-    ensures { λ r. ⌜ r ≡ max a b ⌝ }
-{
-    if a < b { b } else { a }
-}
 
 // How far windows reach.
 pub struct Reach {
@@ -26,7 +19,7 @@ pub fn stretch(p: usize, q: usize, back: usize, ahead: usize) -> Reach
     requires { ⌜ (p ≤ back) × (q ≤ ahead) × (back ≤ 64) × (ahead ≤ 64) ⌝ }
     ensures { λ r. ⌜ Stretch p q back ahead (r .back) (r .ahead) ⌝ }
 {
-    let s = window::lesser(larger(p, 1), back - p);
+    let s = window::lesser(window::greater(p, 1), back - p);
     let t = window::lesser(window::lesser(q + 1, p + q + 1 - s), ahead - q);
     Reach {
         back: p + s,

@@ -7,7 +7,8 @@ ghost use Prim.Native.Nat.{_+_, _*_, _≤_, _<_};
 ghost use lib.ListN.{length};
 ghost use Rattle.window.specs.Window.{column};
 ghost use Rattle.raster_morph.specs.Operation.{extreme};
-ghost use Rattle.raster_morph.specs.Ranges.{Apart, PingPong};
+ghost use Rattle.window.specs.Ranges.{Apart};
+ghost use Rattle.raster_morph.specs.Ranges.{PingPong};
 
 // Erode takes the least, dilate the largest.
 pub enum Extreme {

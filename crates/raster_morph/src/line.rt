@@ -4,7 +4,7 @@ ghost use Prim.Native.Nat.{_+_, _-_, _*_, _≤_, _<_, _^_};
 ghost use lib.ListN.{length};
 ghost use Rattle.window.specs.Store.{Filled, Lined};
 ghost use Rattle.raster_morph.specs.Operation.{operation};
-ghost use Rattle.raster_morph.specs.Ranges.{Apart};
+ghost use Rattle.window.specs.Ranges.{Apart};
 ghost use Rattle.raster_morph.specs.Growth.{earlier, later, paired, pairedTwice, edgedLine};
 use super::Extreme;
 use super::fold::clear;

@@ -1,5 +1,5 @@
 -- `draw_blur::blur_across` meets its contract: each turn adds up to eight rows to the strip. Assumes nothing.
-use Prim.Native.Nat.{ℕ, _+_, _-_, _*_, _≤_, _<_}
+use Prim.Native.Nat.{ℕ, _+_, _-_, _*_, _≤_}
 use mathlib.Core.Path.{_≡_, refl, _∙_}
 use mathlib.Core.Logic.{⊎-elim}
 use native.Mathlib.Omega.{arith}
@@ -7,7 +7,7 @@ use borrow.Author.Needs.{needs}
 use lib.ListN.{length}
 use Rattle.stage.specs.Buffers.{stands}
 use Rattle.stage.specs.Strip.{Strip}
-use Rattle.stage.proofs.Sizes.{area-le}
+use Rattle.window.proofs.Numbers.{area-le}
 use Rattle.stage.proofs.Read.{stands-blank}
 use Rattle.draw_window.specs.Passes.{acrossOf}
 use Rattle.draw_window.proofs.Strips.{strip-none, reached-in, strip-area}
@@ -59,8 +59,8 @@ module _ (g : tie.After-lesser Inv-loop μ-loop) where
 sub-width : tie.Need-sub-width Inv-loop μ-loop
 sub-width c = search needs
 
-reach-of-requires : tie.Need-reach-of-requires Inv-loop μ-loop
-reach-of-requires c κs = search needs
+spread-of-requires : tie.Need-spread-of-requires Inv-loop μ-loop
+spread-of-requires c κs = search needs
 
 reached-requires : tie.Need-reached-requires Inv-loop μ-loop
 reached-requires c κs = search needs
@@ -147,7 +147,7 @@ loop-again c =
     let g = q .before .before in
     let L = g .before .before .loop in
     let a = t g .args in
-    let B = blurs-banded (a .d) _ (r g .before .reach-of .ensures .0) in
+    let B = blurs-banded (a .d) _ (r g .before .spread-of .ensures .0) in
     let K = lanes-worked _ _ _ _ _ _ (stands-blank (a .w) (a .h) (a .source .now) (a .workspace .now) (a .input)) B _ _ _ _ _ _ _ _ _ (r g .reached .ensures) (t g .pre .1 .1) (few g) (q .spread-rows .ensures) (p .pass-lines .ensures .0) in (
       omega (arith, L .inv .0),
       fits g,
@@ -173,7 +173,7 @@ blur-across-spec =
     Inv-loop
     μ-loop
     sub-width
-    reach-of-requires
+    spread-of-requires
     reached-requires
     sub-places
     sub-skip

@@ -1,9 +1,9 @@
 -- `draw_blur::draw_blur` meets its contract: the strip is worked across, then down, and its rows are stored. Assumes nothing.
-use Prim.Native.Nat.{ℕ, _+_, _-_, _*_, _≤_, _<_}
-use mathlib.Core.Path.{_≡_, refl}
+use Prim.Native.Nat.{ℕ, _-_, _*_, _≤_, _<_}
+use mathlib.Core.Path.{refl}
 use native.Mathlib.Omega.{arith}
 use borrow.Author.Needs.{needs}
-use Rattle.stage.proofs.Sizes.{area-le}
+use Rattle.window.proofs.Numbers.{area-le}
 use Rattle.stage.proofs.Read.{stands-blank}
 use Rattle.stage.proofs.Rows.{drawn-none}
 use Rattle.draw_window.proofs.Strips.{reached-in, strip-area}
@@ -19,8 +19,8 @@ returns c = (drawn-none _ _ _ _ _ _ (λ x y i. absurd (omega (arith, i .left, i 
 returns-2 : tie.Need-returns-2
 returns-2 c = (drawn-none _ _ _ _ _ _ (λ x y i. absurd (omega (arith, i .top, i .bottom))), refl)
 
-reach-of-requires : tie.Need-reach-of-requires
-reach-of-requires c κs = search needs
+spread-of-requires : tie.Need-spread-of-requires
+spread-of-requires c κs = search needs
 
 reached-requires : tie.Need-reached-requires
 reached-requires c κs = search needs
@@ -85,7 +85,7 @@ returns-3 c =
     let e = d .before .before .before .before in
     let g = e .before .before .before in
     let a = s g .args in (
-      drawn-both _ _ (spread (a .dx)) (spread (a .dx)) _ _ _ _ _ _ _ (stands-blank (a .w) (a .h) (a .source .now) (a .workspace .now) (a .input)) (blurs-banded (a .dx) _ refl) (blurs-banded (a .dy) _ (g .before .reach-of .ensures .0))
+      drawn-both _ _ (spread (a .dx)) (spread (a .dx)) _ _ _ _ _ _ _ (stands-blank (a .w) (a .h) (a .source .now) (a .workspace .now) (a .input)) (blurs-banded (a .dx) _ refl) (blurs-banded (a .dy) _ (g .before .spread-of .ensures .0))
           (blur-is (a .w) (a .h) (a .input) (a .dx) (a .dy) _)
           (a .rect) _ _ _ _ _ _ _ (s g .pre .1 .2) (g .reached .ensures) (e .blur-across .ensures) (d .blur-down .ensures .0) (c .before .before .store-rows .ensures),
       search needs,
@@ -97,7 +97,7 @@ draw-blur-spec =
     (tie.spec
     returns
     returns-2
-    reach-of-requires
+    spread-of-requires
     reached-requires
     blur-across-requires
     mul-blur-down

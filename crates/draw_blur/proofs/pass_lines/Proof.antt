@@ -1,6 +1,7 @@
 -- `draw_blur::pass_lines` meets its contract: for d below 2 there are no passes. Assumes nothing.
 use mathlib.Core.Path.{refl}
 use mathlib.Core.Logic.{inl, inr}
+use native.Mathlib.Omega.{arith}
 use borrow.Author.Needs.{needs}
 use Rattle.draw_blur.proofs.Blurs.{worked-none, worked-passes}
 use Rattle.draw_blur.proofs.pass_lines.Statement.{statement}
@@ -10,7 +11,7 @@ returns : tie.Need-returns
 returns c = (worked-none _ _ _ _ (c .if1 .taken), inl refl)
 
 blur-lines-requires : tie.Need-blur-lines-requires
-blur-lines-requires c κs = search needs
+blur-lines-requires c κs = ((omega arith, omega arith, inl (omega arith)), search needs)
 
 same-length : tie.Need-same-length
 same-length c = search needs

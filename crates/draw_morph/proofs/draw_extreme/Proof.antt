@@ -1,9 +1,9 @@
 -- `draw_morph::draw_extreme` meets its contract: the strip is worked across, then down, and its rows are stored. Assumes nothing.
-use Prim.Native.Nat.{ℕ, _+_, _-_, _*_, _≤_, _<_}
-use mathlib.Core.Path.{_≡_, refl}
+use Prim.Native.Nat.{ℕ, _-_, _*_, _≤_, _<_}
+use mathlib.Core.Path.{refl}
 use native.Mathlib.Omega.{arith}
 use borrow.Author.Needs.{needs}
-use Rattle.stage.proofs.Sizes.{area-le}
+use Rattle.window.proofs.Numbers.{area-le}
 use Rattle.stage.proofs.Read.{stands-blank}
 use Rattle.stage.proofs.Rows.{drawn-none}
 use Rattle.draw_window.proofs.Strips.{reached-in, strip-area}

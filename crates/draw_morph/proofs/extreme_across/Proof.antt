@@ -1,5 +1,5 @@
 -- `draw_morph::extreme_across` meets its contract: each turn adds one row to the strip. Assumes nothing.
-use Prim.Native.Nat.{ℕ, _+_, _-_, _*_, _≤_}
+use Prim.Native.Nat.{_-_, _≤_}
 use mathlib.Core.Path.{_≡_, refl, _∙_}
 use native.Mathlib.Omega.{arith}
 use borrow.Author.Needs.{needs}
@@ -8,7 +8,8 @@ use Rattle.stage.specs.Buffers.{stands}
 use Rattle.stage.specs.Strip.{Strip}
 use Rattle.stage.proofs.Read.{stands-blank}
 use Rattle.draw_window.specs.Passes.{acrossOf}
-use Rattle.draw_window.proofs.Strips.{strip-none, strip-painted, row-room}
+use Rattle.stage.proofs.Sizes.{row-room}
+use Rattle.draw_window.proofs.Strips.{strip-none, strip-painted}
 use Rattle.draw_window.proofs.Bands.{band-row}
 use Rattle.draw_morph.specs.Extremes.{extremes}
 use Rattle.draw_morph.proofs.Extremes.{extremes-banded}

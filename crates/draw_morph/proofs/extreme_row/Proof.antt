@@ -1,10 +1,9 @@
 -- `draw_morph::extreme_row` meets its contract: the worked row lies in one of the two halves, and its pixels are copied. Assumes nothing.
-use Prim.Native.Nat.{ℕ, _+_, _-_, _*_, _/_, _≤_}
-use mathlib.Core.Path.{_≡_}
+use Prim.Native.Nat.{_+_, _-_, _*_, _/_}
 use mathlib.Core.Logic.{inl, ⊎-elim}
 use native.Mathlib.Omega.{arith}
 use borrow.Author.Needs.{needs}
-use Rattle.raster.proofs.Painting.{painted-as}
+use Rattle.pixel.proofs.Painting.{painted-as}
 use Rattle.draw_window.proofs.Channels.{row-pixel}
 use Rattle.draw_window.proofs.Strips.{whole-pixels}
 use Rattle.draw_morph.proofs.Extremes.{worked}

@@ -3,7 +3,6 @@ use borrow.Author.Needs.{needs}
 use Rattle.filter.specs.Accepted.{Bounded}
 use Rattle.draw_point.specs.Pointwise.{Pointwise}
 use Rattle.draw_point.specs.Row.{Prepared}
-use Rattle.draw_point.proofs.Coefficients.{small-arithmetic}
 use Rattle.draw_point.proofs.draw_combine.Statement.{statement}
 use Rattle.draw_point.proofs.draw_combine.Tie as tie
 
@@ -14,7 +13,7 @@ prepare-requires : tie.Need-prepare-requires
 unfolding Bounded
 prepare-requires c κs =
     let s = c .before .before .before in
-    (search needs, small-arithmetic _ (s .pre .0 .bounded))
+    (search needs, s .pre .0 .bounded)
 
 slice-aggregate-draw-prepared : tie.Need-slice-aggregate-draw-prepared
 slice-aggregate-draw-prepared c = search needs

@@ -1,9 +1,9 @@
 -- `draw_blur::lanes::gather_rows` meets its contract: each turn copies one lane. Assumes nothing.
-use Prim.Native.Nat.{ℕ, _+_, _-_, _*_, _≤_, _<_}
+use Prim.Native.Nat.{_-_, _≤_}
 use mathlib.Core.Path.{_≡_}
-use native.Mathlib.Nat.{mul-le-mul-right}
 use native.Mathlib.Omega.{arith}
 use borrow.Author.Needs.{needs}
+use Rattle.window.proofs.Numbers.{line-end}
 use Rattle.draw_blur.specs.Lanes.{Gathered}
 use Rattle.draw_blur.proofs.Turning.{gathered-none, gathered-more}
 use Rattle.draw_blur.proofs.lanes.gather_rows.Statement.{statement}
@@ -14,10 +14,6 @@ Inv-loop lines o dst₀ at width count k₀ dst k = (k ≤ count) × Gathered li
 
 abbrev μ-loop : tie.MeasureT-loop
 μ-loop lines o dst₀ at width count k₀ dst k = count - k
-
--- row k ends among the rows
-room : (width k count : ℕ) → k < count → k * width + width ≤ count * width
-room width k count l = omega (arith, mul-le-mul-right width l)
 
 loop-holds : tie.Need-loop-holds Inv-loop μ-loop
 loop-holds c = (omega arith, gathered-none _ _ _ _ _)
@@ -31,23 +27,23 @@ add-copy-rows c = search needs
 mul-copy-rows-2 : tie.Need-mul-copy-rows-2 Inv-loop μ-loop
 mul-copy-rows-2 c =
     let a = c .before .before .before .before .before .args in
-    omega (arith, room (a .width) (c .before .before .loop .k) (a .count) (omega arith))
+    omega (arith, line-end (a .width) (a .count) (c .before .before .loop .k) (omega arith))
 
 add-copy-rows-2 : tie.Need-add-copy-rows-2 Inv-loop μ-loop
 add-copy-rows-2 c =
     let a = c .before .before .before .before .before .args in
-    omega (arith, room (a .width) (c .before .before .loop .k) (a .count) (omega arith))
+    omega (arith, line-end (a .width) (a .count) (c .before .before .loop .k) (omega arith))
 
 mul-copy-rows-3 : tie.Need-mul-copy-rows-3 Inv-loop μ-loop
 mul-copy-rows-3 c =
     let a = c .before .before .before .before .before .args in
-    omega (arith, room (a .width) (c .before .before .loop .k) (a .count) (omega arith))
+    omega (arith, line-end (a .width) (a .count) (c .before .before .loop .k) (omega arith))
 
 copy-rows-requires : tie.Need-copy-rows-requires Inv-loop μ-loop
 copy-rows-requires c κs =
     let a = c .before .before .before .before .before .args in
     let L = c .before .before .loop in
-    let r = room (a .width) (L .k) (a .count) (omega arith) in
+    let r = line-end (a .width) (a .count) (L .k) (omega arith) in
     (omega arith, λ v l. (omega arith, omega (arith, L .inv .1 .long)))
 
 add-k : tie.Need-add-k Inv-loop μ-loop

@@ -7,7 +7,7 @@ use Rattle.pixel.specs.declared.Pixel.{Pixel}
 use Rattle.pixel.specs.declared.Operator.the-variants.{Over}
 use Rattle.pixel.specs.Bytes.{pixelAt}
 use Rattle.pixel.specs.Composite.{composited}
-use Rattle.raster.proofs.Painting.{painted-as}
+use Rattle.pixel.proofs.Painting.{painted-as}
 use Rattle.stage.specs.Buffers.{stands}
 use Rattle.draw_point.proofs.Strokes.{loaded-pixel, loaded-valid}
 use Rattle.draw_point.proofs.Stacks.{over-valid}

@@ -7,7 +7,7 @@ use borrow.Author.Needs.{needs}
 use Rattle.pixel.specs.declared.Operator.the-variants.{Over}
 use Rattle.pixel.specs.Bytes.{pixelAt, ValidRow}
 use Rattle.pixel.specs.Composite.{composited}
-use Rattle.raster.proofs.Painting.{painted-as}
+use Rattle.pixel.proofs.Painting.{painted-as}
 use Rattle.filter.specs.declared.Input.{Input}
 use Rattle.filter.specs.Kinds.{reads}
 use Rattle.filter.specs.Accepted.{Bounded}

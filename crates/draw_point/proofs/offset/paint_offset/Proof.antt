@@ -5,7 +5,7 @@ use mathlib.Core.Path.{refl, sym}
 use native.Mathlib.Omega.{arith}
 use lib.ListN.{length}
 use borrow.Author.Needs.{needs}
-use Rattle.raster.proofs.Painting.{painted-as}
+use Rattle.pixel.proofs.Painting.{painted-as}
 use Rattle.filter.specs.Kinds.{work, reads}
 use Rattle.filter.specs.Accepted.{Bounded}
 use Rattle.stage.proofs.Read.{stands-blank}

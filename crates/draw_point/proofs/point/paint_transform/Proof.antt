@@ -9,7 +9,6 @@ use Rattle.filter.specs.Kinds.{work, reads}
 use Rattle.stage.specs.Buffers.{stands}
 use Rattle.filter.specs.Accepted.{Bounded}
 use Rattle.draw_point.proofs.Strokes.{loaded-pixel, loaded-valid, part-long, painted-into}
-use Rattle.draw_point.proofs.Coefficients.{small-matrix}
 use Rattle.draw_point.proofs.point.paint_transform.Statement.{statement}
 use Rattle.draw_point.proofs.point.paint_transform.Tie as tie
 
@@ -52,7 +51,7 @@ matrix-row-requires c κs =
     let R = s .pre .0 .1 in
     let a = s .args in
     let fits : start-at .start .result + 4 * (a .to - a .from) ≤ length (a .workspace .now) = omega (arith, start-at .start .ensures .1, D .sized .workspace, R .order, R .wide) in (
-      (s .pre .1 .0, small-matrix _ (D .bounded), s .pre .1 .1, loaded-valid _ _ _ _ _ _ (load-at .load .ensures) (D .valid .valid _ (D .earlier .0))),
+      (s .pre .1 .0, D .bounded, s .pre .1 .1, loaded-valid _ _ _ _ _ _ (load-at .load .ensures) (D .valid .valid _ (D .earlier .0))),
       (omega (arith, R .wide, D .sized .wide), load-at .load .ensures .long ∙ s .pre .1 .2, part-long (start-at .start .result) (a .to - a .from) (a .workspace .now) fits),
     )
 

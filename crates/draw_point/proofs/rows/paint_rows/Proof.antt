@@ -5,7 +5,7 @@ use mathlib.Core.Path.{_≡_, sym, ap, _∙_}
 use native.Mathlib.Omega.{arith}
 use lib.ListN.{length}
 use borrow.Author.Needs.{needs}
-use Rattle.raster.proofs.Painting.{painted-as}
+use Rattle.pixel.proofs.Painting.{painted-as}
 use Rattle.filter.specs.Picture.{Picture}
 use Rattle.filter.specs.Kinds.{work}
 use Rattle.stage.specs.Buffers.{stands}

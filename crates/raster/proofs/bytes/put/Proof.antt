@@ -2,7 +2,7 @@
 use native.Mathlib.Omega.{arith}
 use borrow.Author.Needs.{needs}
 use lib.ListN.{length-set}
-use Rattle.raster.proofs.Painting.{painted-one}
+use Rattle.pixel.proofs.Painting.{painted-one}
 use Rattle.raster.proofs.bytes.put.Statement.{statement}
 use Rattle.raster.proofs.bytes.put.Tie as tie
 

@@ -5,7 +5,7 @@ use native.Mathlib.Omega.{arith}
 use borrow.Author.Needs.{needs}
 use Rattle.pixel.specs.Bytes.{Painted}
 use Rattle.raster.specs.Factors.{twice, alphaOf}
-use Rattle.raster.proofs.Painting.{painted-none}
+use Rattle.pixel.proofs.Painting.{painted-none}
 use Rattle.raster.proofs.Words.{packed-alpha, factor-more}
 use Rattle.raster.proofs.factor.opposites.Statement.{statement}
 use Rattle.raster.proofs.factor.opposites.Tie as tie

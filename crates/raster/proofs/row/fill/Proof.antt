@@ -5,7 +5,7 @@ use native.Mathlib.Omega.{arith}
 use borrow.Author.Needs.{needs}
 use Rattle.pixel.specs.Bytes.{Painted}
 use Rattle.raster.specs.Word.{unpacked}
-use Rattle.raster.proofs.Painting.{painted-none, painted-more, painted-as}
+use Rattle.pixel.proofs.Painting.{painted-none, painted-more, painted-as}
 use Rattle.raster.proofs.row.fill.Statement.{statement}
 use Rattle.raster.proofs.row.fill.Tie as tie
 

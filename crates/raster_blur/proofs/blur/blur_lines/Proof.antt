@@ -1,5 +1,6 @@
 -- `blur_lines` meets its contract: three box passes, there, back and there again. Assumes nothing.
-use mathlib.Core.Path.{refl, sym}
+use mathlib.Core.Path.{refl}
+use mathlib.Core.Logic.{inl, inr, ⊎-elim}
 use Prim.Native.Nat.{_-_, _/_, _%_}
 use native.Mathlib.Omega.{arith}
 use borrow.Author.Needs.{needs}
@@ -20,7 +21,7 @@ box-pass-requires-2 : tie.Need-box-pass-requires-2
 box-pass-requires-2 c κs =
     let pre = c .before .before .before .before .before .before .before .before .before .before .before .pre in
     let L = c .before .before .before .before .before .before .box-pass .ensures in
-    ((omega (arith, pre .0 .1, L .long), omega (arith, pre .0 .0, L .long), λ i j h k e. pre .0 .2 j i k h (sym e)), (omega (arith, pre .1 .0, c .before .before .before .before .before .before .box-pass .kept .1 .1 .1 .1 .1 .1 .1 .0), pre .1 .1, omega (arith, pre .1), omega (arith, pre .1)))
+    ((omega (arith, pre .0 .1, L .long), omega (arith, pre .0 .0, L .long), ⊎-elim inr inl (pre .0 .2)), (omega (arith, pre .1 .0, c .before .before .before .before .before .before .box-pass .kept .1 .1 .1 .1 .1 .1 .1 .0), pre .1 .1, omega (arith, pre .1), omega (arith, pre .1)))
 
 box-pass-requires-3 : tie.Need-box-pass-requires-3
 box-pass-requires-3 c κs =

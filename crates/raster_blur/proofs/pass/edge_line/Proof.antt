@@ -1,7 +1,7 @@
 -- `edge_line` meets its contract: the sums are slid in two steps, then divided. Assumes nothing.
 use native.Mathlib.Omega.{arith}
 use borrow.Author.Needs.{needs}
-use Rattle.raster_blur.proofs.Lines.{line-end}
+use Rattle.window.proofs.Numbers.{line-end}
 use Rattle.raster_blur.proofs.Passes.{sum-lt, entered, left-le, edge-advanced}
 use Rattle.raster_blur.proofs.pass.edge_line.Statement.{statement}
 use Rattle.raster_blur.proofs.pass.edge_line.Tie as tie

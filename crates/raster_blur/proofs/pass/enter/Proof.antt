@@ -5,7 +5,8 @@ use native.Mathlib.Omega.{arith}
 use borrow.Author.Needs.{needs}
 use lib.ListN.{getD}
 use Rattle.raster_blur.proofs.Ranges.{filled-as, filled-same}
-use Rattle.raster_blur.proofs.Lines.{column-in, column-out, line-end}
+use Rattle.window.proofs.Numbers.{line-end}
+use Rattle.raster_blur.proofs.Lines.{column-in, column-out}
 use Rattle.raster_blur.proofs.pass.enter.Statement.{statement}
 use Rattle.raster_blur.proofs.pass.enter.Tie as tie
 

@@ -4,7 +4,8 @@ use mathlib.Core.Path.{refl}
 use Prim.Native.Nat.{ℕ, _+_, _-_, _*_, _<_}
 use native.Mathlib.Omega.{arith}
 use borrow.Author.Needs.{needs}
-use Rattle.raster_blur.proofs.Lines.{line-end, lines-apart}
+use Rattle.window.proofs.Numbers.{line-end}
+use Rattle.raster_blur.proofs.Lines.{lines-apart}
 use Rattle.raster_blur.proofs.Passes.{sum-lt, next-le, inner-slid, advanced-line}
 use Rattle.raster_blur.proofs.pass.inner_line.Statement.{statement}
 use Rattle.raster_blur.proofs.pass.inner_line.Tie as tie

@@ -6,8 +6,8 @@ use borrow.Author.Needs.{needs}
 use lib.ListN.{getD}
 use Rattle.raster_blur.specs.Running.{columns}
 use Rattle.raster_blur.proofs.Ranges.{filled-as, filled-same}
-use Rattle.raster_blur.proofs.Lines.{line-end}
-use Rattle.raster_blur.proofs.Slide.{behind-before}
+use Rattle.window.proofs.Numbers.{line-end}
+use Rattle.window.proofs.Band.{behind-out}
 use Rattle.raster_blur.proofs.Passes.{leaving}
 use Rattle.raster_blur.proofs.pass.leave.Statement.{statement}
 use Rattle.raster_blur.proofs.pass.leave.Tie as tie
@@ -46,7 +46,7 @@ returns c =
 returns-2 : tie.Need-returns-2
 returns-2 c =
     let a = c .before .before .before .before .args in
-    filled-same _ _ _ _ (λ i l h. omega (arith, behind-before (a .p .back + 1) (columns (a .p) (a .buf .now) i) (a .y) (omega arith)))
+    filled-same _ _ _ _ (λ i l h. omega (arith, behind-out (a .p .back + 1) (columns (a .p) (a .buf .now) i) (a .y) (omega arith)))
 
 pub leave-spec : {M : Type 1} → statement M
 leave-spec =

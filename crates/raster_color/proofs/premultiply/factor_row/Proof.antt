@@ -6,7 +6,7 @@ use native.Mathlib.Omega.{arith}
 use borrow.Author.Needs.{needs}
 use Rattle.pixel.specs.Bytes.{Painted}
 use Rattle.raster_color.specs.Code.{factors}
-use Rattle.raster_color.proofs.Painted.{painted-none, painted-more}
+use Rattle.pixel.proofs.Painting.{painted-none, painted-more}
 use Rattle.raster_color.proofs.Covers.{word-factors}
 use Rattle.raster_color.proofs.premultiply.factor_row.Statement.{statement}
 use Rattle.raster_color.proofs.premultiply.factor_row.Tie as tie

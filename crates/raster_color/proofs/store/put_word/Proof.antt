@@ -2,7 +2,7 @@
 use lib.ListN.{length-set}
 use native.Mathlib.Omega.{arith}
 use borrow.Author.Needs.{needs}
-use Rattle.raster_color.proofs.Painted.{painted-one}
+use Rattle.pixel.proofs.Painting.{painted-one}
 use Rattle.raster_color.proofs.store.put_word.Statement.{statement}
 use Rattle.raster_color.proofs.store.put_word.Tie as tie
 

@@ -7,7 +7,8 @@ use Prim.Native.Nat.{ℕ, _+_, _*_, _-_, _≤_}
 use native.Mathlib.Omega.{arith}
 use lib.ListN.{length}
 use Rattle.raster_morph.specs.declared.Extreme.{Extreme}
-use Rattle.raster_morph.specs.Ranges.{Apart, PingPong}
+use Rattle.window.specs.Ranges.{Apart}
+use Rattle.raster_morph.specs.Ranges.{PingPong}
 use Rattle.raster_morph.specs.Growth.{windows}
 use Rattle.raster_morph.proofs.Growing.{pingpong-start, pingpong-widen, pingpong-place}
 use Rattle.raster_morph.proofs.growth.grow_windows.Statement.{statement}

@@ -12,10 +12,10 @@ stretched : (c : tie.After-lesser3) →
     Stretch (a .p) (a .q) (a .back) (a .ahead) (a .p + c .before .before .lesser .result) (a .q + c .lesser3 .result)
 stretched c =
     let begin = c .before .before .before .before in
-    step _ _ _ _ _ _ _ _ (c .before .before .before .larger .ensures) (c .before .before .lesser .ensures) (c .before .lesser2 .ensures) (c .lesser3 .ensures) (begin .pre .0) (begin .pre .1)
+    step _ _ _ _ _ _ _ _ (c .before .before .before .greater .ensures) (c .before .before .lesser .ensures) (c .before .lesser2 .ensures) (c .lesser3 .ensures) (begin .pre .0) (begin .pre .1)
 
-larger-requires : tie.Need-larger-requires
-larger-requires c κs = tt
+greater-requires : tie.Need-greater-requires
+greater-requires c κs = tt
 
 sub-lesser : tie.Need-sub-lesser
 sub-lesser c = search needs
@@ -57,7 +57,7 @@ pub stretch-spec : {M : Type 1} → statement M
 stretch-spec =
     tie.close
     (tie.spec
-    larger-requires
+    greater-requires
     sub-lesser
     lesser-requires
     add-lesser
