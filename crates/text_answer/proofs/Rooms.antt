@@ -17,11 +17,12 @@ size-le w h e a b = omega (arith, mul-le-mul-right h a)
 pub layers-le : (n k : ℕ) → n ≤ 16 → k ≤ 1024 → n * k ≤ 16384
 layers-le n k a b = omega (arith, mul-le-mul-right k a)
 
-pub ok-room : (w h : ℕ) (p : Picture) → w ≤ 16 → h ≤ 16 → length (okText w h p) ≤ 2371
-ok-room w h p a b = omega (arith, ok-length w h p, lines-length w h p, mul-le-mul-right (9 * w + 4) b)
+-- what is printed has room in 4,096 bytes
+pub ok-room : (w h : ℕ) (p : Picture) (n : ℕ) → w ≤ 16 → h ≤ 16 → n ≡ 4096 → 0 + length (okText w h p) ≤ n
+ok-room w h p n a b e = omega (arith, ok-length w h p, lines-length w h p, mul-le-mul-right (9 * w + 4) b)
 
-pub refused-room : (number place : ℕ) → number < 18446744073709551616 → place < 18446744073709551616 → length (refusedText number place) ≤ 50
-refused-room number place a b = omega (arith, refused-length number place, decimal-few 19 number (omega arith), decimal-few 19 place (omega arith))
+pub refused-room : (number place n : ℕ) → number < 18446744073709551616 → place < 18446744073709551616 → n ≡ 4096 → 0 + length (refusedText number place) ≤ n
+refused-room number place n a b e = omega (arith, refused-length number place, decimal-few 19 number (omega arith), decimal-few 19 place (omega arith))
 
 pub take-zeros : (n m : ℕ) → n ≤ m → take {A = ℕ} n (replicate m 0) ≡ replicate n 0
 take-zeros zero m h = refl

@@ -1,8 +1,6 @@
 -- `text_answer::print_answer` meets its contract. Assumes nothing.
 use mathlib.Core.Path.{sym, _∙_}
-use native.Mathlib.Omega.{arith}
 use borrow.Author.Needs.{needs}
-use Rattle.filter.specs.Bytes.{read}
 use Rattle.text_print.proofs.Puts.{put-as}
 use Rattle.text_answer.proofs.Rooms.{ok-room, refused-room}
 use Rattle.text_answer.proofs.Printed.{answer-ok, answer-refused}
@@ -18,7 +16,7 @@ last-layer-requires c κs = let s = c .before .before .before .before in (s .pre
 put-ok-requires : tie.Need-put-ok-requires
 put-ok-requires c κs =
     let s = c .before .before .before .before .before .before in
-    (c .before .last-layer .ensures .0, omega (arith, ok-room (s .args .width) (s .args .height) (read (s .args .width) (s .args .height) (c .before .last-layer .result .now) 0) (s .pre .0 .0) (s .pre .0 .1)))
+    (c .before .last-layer .ensures .0, ok-room _ _ _ _ (s .pre .0 .0) (s .pre .0 .1) (s .pre .0 .3))
 
 same-length : tie.Need-same-length
 same-length c = search needs
@@ -34,7 +32,7 @@ place-requires : tie.Need-place-requires
 place-requires c κs = search needs
 
 put-refused-requires : tie.Need-put-refused-requires
-put-refused-requires c κs = omega (arith, refused-room (c .before .number .result) (c .place .result) (search needs) (search needs))
+put-refused-requires c κs = refused-room _ _ _ (search needs) (search needs) (c .before .before .before .before .before .before .before .pre .0 .3)
 
 same-length-2 : tie.Need-same-length-2
 same-length-2 c = search needs

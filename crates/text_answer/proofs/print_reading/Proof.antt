@@ -11,7 +11,7 @@ use Rattle.text_answer.proofs.print_reading.Statement.{statement}
 use Rattle.text_answer.proofs.print_reading.Tie as tie
 
 put-refused-requires : tie.Need-put-refused-requires
-put-refused-requires c κs = omega (arith, refused-room 15 (c .before .before .before .before .args .reading .line) (search needs) (search needs))
+put-refused-requires c κs = refused-room _ _ _ (search needs) (search needs) (c .before .before .before .before .pre .1)
 
 same-length : tie.Need-same-length
 same-length c = search needs
