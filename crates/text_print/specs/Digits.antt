@@ -14,7 +14,7 @@ unfoldable pub shortest : ℕ → ℕ → List ℕ
 shortest zero n = digit n ∷ []
 shortest (suc k) n = cond (ltb n 10) (digit n ∷ []) (shortest k (n / 10) ++ (digit (n % 10) ∷ []))
 
--- a number has no more digits than it says
+-- all its digits: there are at most n + 1
 unfoldable pub decimal : ℕ → List ℕ
 decimal n = shortest n n
 
