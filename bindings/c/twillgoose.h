@@ -8,7 +8,8 @@
  *
  * A slice is a pointer and its length in bytes. Every length and every number is checked: what does not fit is refused,
  * and a refusal changes no byte of any slice. What the library cannot check is the caller's part: a pointer is not null
- * and has that many bytes behind it, and what is written does not overlap anything else that is passed.
+ * and has that many bytes behind it, and what is written does not overlap anything else that is passed. Nothing is
+ * allocated; a call uses up to 160 KB of stack.
  *
  * Steps are lines of text, each closed by a line feed, their fields parted by one tab: kind, x, y, width, height of its
  * region, inputs (src, alpha, or the number of an earlier step), numbers:
