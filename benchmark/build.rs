@@ -1,15 +1,20 @@
-// Links the static library of the kernels.
+//! Links the proved libraries where the feature `library` asks for them.
 use std::path::Path;
 
 fn main() {
-    let package = std::env::var("CARGO_MANIFEST_DIR").expect("cargo runs this");
-    let folder = Path::new(&package).join("../target/staticlib");
-    let library = folder.join("libkernels.a");
-    println!("cargo:rerun-if-changed={}", library.display());
-    if !library.exists() {
-        eprintln!("target/staticlib/libkernels.a is missing: `rt staticlib kernels` makes it, `benchmark/run` does both");
-        std::process::exit(1);
+    println!("cargo:rerun-if-changed=build.rs");
+    if std::env::var_os("CARGO_FEATURE_LIBRARY").is_none() {
+        return;
     }
+    let package = std::env::var("CARGO_MANIFEST_DIR").expect("set by cargo");
+    let folder = Path::new(&package).join("../target/staticlib");
     println!("cargo:rustc-link-search=native={}", folder.display());
-    println!("cargo:rustc-link-lib=static=kernels");
+    for name in ["kernels", "capi"] {
+        let archive = folder.join(format!("lib{name}.a"));
+        println!("cargo:rerun-if-changed={}", archive.display());
+        if !archive.exists() {
+            panic!("{} is missing: `rt staticlib {name}` makes it, `benchmark/run` does all", archive.display());
+        }
+        println!("cargo:rustc-link-lib=static={name}");
+    }
 }

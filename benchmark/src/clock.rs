@@ -1,4 +1,5 @@
-//! The processor time of this thread: on a busy machine it leaves out the time in which others run.
+//! The processor time of this process: on a busy machine it leaves out the time in which others run. Ours has one thread;
+//! another program's library may start more, and they count.
 use std::time::Duration;
 
 #[repr(C)]
@@ -11,11 +12,11 @@ extern "C" {
     fn clock_gettime(clock: i32, time: *mut Timespec) -> i32;
 }
 
-/// CLOCK_THREAD_CPUTIME_ID of Linux.
-const THREAD: i32 = 3;
+/// CLOCK_PROCESS_CPUTIME_ID of Linux.
+const PROCESS: i32 = 2;
 
 pub fn now() -> Duration {
     let mut time = Timespec { seconds: 0, nanoseconds: 0 };
-    assert!(unsafe { clock_gettime(THREAD, &mut time) } == 0);
+    assert!(unsafe { clock_gettime(PROCESS, &mut time) } == 0);
     Duration::new(time.seconds as u64, time.nanoseconds as u32)
 }

@@ -18,11 +18,6 @@ impl Answer {
     pub fn refused(number: u8, place: usize) -> Answer {
         Answer { number, place: place as u64 }
     }
-
-    /// Number and place in one word, as the library answers.
-    pub fn packed(self) -> u64 {
-        u64::from(self.number) + 256 * self.place
-    }
 }
 
 /// All that a call is given. `rect` is the rectangle that a redraw names.

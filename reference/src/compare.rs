@@ -12,8 +12,10 @@ use crate::text::read_steps;
 /// The longest answer of `sheet` is far shorter.
 pub const ROOM: usize = 4096;
 
-/// What is compared. Answers are number + 256 · place; a view is offset · 2^32 + length; steps are lines of text.
+/// What is compared: the library's functions. Steps are lines of text; `render` and `redraw` return the number, `layer` the
+/// length of a layer in a workspace of so many bytes, `sheet` the length of what is printed, stored where it fits.
 pub trait Renderer {
+    #[allow(clippy::too_many_arguments)]
     fn render(
         &self,
         width: usize,
@@ -22,6 +24,7 @@ pub trait Renderer {
         source: &[u8],
         workspace: &mut [u8],
         scratch: &mut [u8],
+        place: &mut u64,
     ) -> u64;
     #[allow(clippy::too_many_arguments)]
     fn redraw(
@@ -33,9 +36,10 @@ pub trait Renderer {
         source: &[u8],
         workspace: &mut [u8],
         scratch: &mut [u8],
+        place: &mut u64,
         count: &mut u64,
     ) -> u64;
-    fn layer(&self, width: usize, height: usize, steps: usize, n: usize, workspace: &[u8]) -> u64;
+    fn layer(&self, width: usize, height: usize, steps: usize, n: usize, workspace: usize, offset: &mut u64) -> u64;
     fn sheet(&self, text: &[u8], out: &mut [u8]) -> u64;
 }
 
@@ -51,10 +55,11 @@ impl Renderer for Reference {
         source: &[u8],
         workspace: &mut [u8],
         scratch: &mut [u8],
+        place: &mut u64,
     ) -> u64 {
         let answer = read_steps(steps, self.0)
             .map(|steps| render(Sheet { width, height, steps: &steps }, source, workspace, scratch, self.0));
-        answer.unwrap_or_else(|refused| refused).packed()
+        told(answer.unwrap_or_else(|refused| refused), place)
     }
 
     fn redraw(
@@ -66,31 +71,46 @@ impl Renderer for Reference {
         source: &[u8],
         workspace: &mut [u8],
         scratch: &mut [u8],
+        place: &mut u64,
         count: &mut u64,
     ) -> u64 {
         let redrawn = read_steps(steps, self.0)
             .map(|steps| redraw(Sheet { width, height, steps: &steps }, rect, source, workspace, scratch, self.0));
         let (answer, worked) = redrawn.unwrap_or_else(|refused| (refused, 0));
-        *count = worked;
-        answer.packed()
+        if answer == Answer::DONE || !self.0.is(Fault::RefusalKeepsCount) {
+            *count = worked;
+        }
+        told(answer, place)
     }
 
-    fn layer(&self, width: usize, height: usize, steps: usize, n: usize, workspace: &[u8]) -> u64 {
-        let (offset, length) = layer(width, height, steps, n, workspace, self.0);
-        (offset as u64) << 32 | length as u64
+    fn layer(&self, width: usize, height: usize, steps: usize, n: usize, workspace: usize, offset: &mut u64) -> u64 {
+        let (from, length) = layer(width, height, steps, n, workspace, self.0);
+        *offset = from as u64;
+        length as u64
     }
 
     fn sheet(&self, text: &[u8], out: &mut [u8]) -> u64 {
         let printed = print::sheet(text, self.0);
-        out[..printed.len()].copy_from_slice(&printed);
+        let fits = printed.len() <= out.len();
+        if fits || self.0.is(Fault::PrintedInPart) {
+            let length = printed.len().min(out.len());
+            out[..length].copy_from_slice(&printed[..length]);
+        }
         printed.len() as u64
     }
+}
+
+/// Number and place apart.
+fn told(answer: Answer, place: &mut u64) -> u64 {
+    *place = answer.place;
+    u64::from(answer.number)
 }
 
 /// Everything that a call leaves.
 #[derive(PartialEq, Eq)]
 pub struct After {
-    answer: u64,
+    number: u64,
+    place: u64,
     count: u64,
     source: Vec<u8>,
     workspace: Vec<u8>,
@@ -99,15 +119,15 @@ pub struct After {
 
 impl After {
     fn refused(&self) -> bool {
-        self.answer != Answer::DONE.packed()
+        self.number != 0
     }
 
     /// What differs from the other, in words.
     fn difference(&self, rules: &After) -> Option<String> {
         let first = |a: &[u8], b: &[u8]| a.iter().zip(b).position(|(a, b)| a != b);
-        if self.answer != rules.answer {
-            let say = |answer: u64| format!("{} at {}", answer & 255, answer >> 8);
-            return Some(format!("answer {}, rules {}", say(self.answer), say(rules.answer)));
+        if (self.number, self.place) != (rules.number, rules.place) {
+            let say = |after: &After| format!("{} at {}", after.number, after.place);
+            return Some(format!("answer {}, rules {}", say(self), say(rules)));
         }
         if self.count != rules.count {
             return Some(format!("count {}, rules {}", self.count, rules.count));
@@ -125,16 +145,19 @@ impl After {
     }
 }
 
+/// What stands in an out parameter before a call, and stays where the call does not set it.
+const UNSET: u64 = 77_777_777;
+
 /// A full render of the case, or a redraw of its rectangle.
 pub fn call(renderer: &dyn Renderer, case: &Case, partly: bool) -> After {
     let Case { width, height, steps, rect, source, workspace, scratch } = case.clone();
-    let mut after = After { answer: 0, count: 0, source, workspace, scratch };
-    let After { source, workspace, scratch, count, .. } = &mut after;
-    after.answer = if partly {
-        *count = 77;
-        renderer.redraw(width, height, &steps, rect, source, workspace, scratch, count)
+    let mut after = After { number: 0, place: UNSET, count: 0, source, workspace, scratch };
+    let After { source, workspace, scratch, place, count, .. } = &mut after;
+    after.number = if partly {
+        *count = UNSET;
+        renderer.redraw(width, height, &steps, rect, source, workspace, scratch, place, count)
     } else {
-        renderer.render(width, height, &steps, source, workspace, scratch)
+        renderer.render(width, height, &steps, source, workspace, scratch, place)
     };
     after
 }
@@ -181,32 +204,38 @@ pub fn redraw_is_render(renderer: &dyn Renderer, case: &Case, random: &mut Rando
 pub fn same_view(renderer: &dyn Renderer, random: &mut Random) -> Result<(), String> {
     let side = |random: &mut Random| random.pick(&[0, 1, 2, 3, 7, 1024, 1025, usize::MAX]);
     let (width, height, steps) = (side(random), side(random), random.pick(&[0, 1, 2, 3, 16, 17, usize::MAX]));
-    let exact = width.checked_mul(height).and_then(|size| size.checked_mul(4)).and_then(|size| size.checked_mul(steps));
-    let length = exact.filter(|length| *length <= 1 << 16).unwrap_or(64) + random.pick(&[0, 0, 0, 1, 4]);
+    let exact = width.wrapping_mul(height).wrapping_mul(4).wrapping_mul(steps);
+    let length = exact.wrapping_add(random.pick(&[0, 0, 0, 1, 4, usize::MAX]));
     let n = random.pick(&[0, steps.wrapping_sub(1), steps, steps / 2, usize::MAX]);
-    let workspace = vec![0; length];
-    let (ours, rules) = (
-        renderer.layer(width, height, steps, n, &workspace),
-        Reference(Fault::None).layer(width, height, steps, n, &workspace),
-    );
+    let view = |renderer: &dyn Renderer| {
+        let mut offset = UNSET;
+        let long = renderer.layer(width, height, steps, n, length, &mut offset);
+        (offset, long)
+    };
+    let (ours, rules) = (view(renderer), view(&Reference(Fault::None)));
     if ours == rules {
         Ok(())
     } else {
-        Err(format!("layer {n} of {steps} on {width} x {height}, {length} bytes: {ours:x}, rules {rules:x}"))
+        Err(format!("layer {n} of {steps} on {width} x {height}, {length} bytes: {ours:?}, rules {rules:?}"))
     }
 }
 
-pub fn same_text(renderer: &dyn Renderer, text: &[u8]) -> Result<(), String> {
-    let mut out = vec![0xaa; ROOM];
-    let length = renderer.sheet(text, &mut out) as usize;
+/// The printed answer, in room enough, in exactly its own, or in too little: there nothing is stored.
+pub fn same_text(renderer: &dyn Renderer, text: &[u8], random: &mut Random) -> Result<(), String> {
     let rules = print::sheet(text, Fault::None);
-    let clean = out.len() >= length && out[length..].iter().all(|byte| *byte == 0xaa);
-    if clean && out[..length] == rules[..] {
+    let room = random.pick(&[ROOM, ROOM, rules.len(), rules.len() - 1, 0]);
+    let mut out = vec![0xaa; room];
+    let length = renderer.sheet(text, &mut out) as usize;
+    let mut expected = vec![0xaa; room];
+    if rules.len() <= room {
+        expected[..rules.len()].copy_from_slice(&rules);
+    }
+    if length == rules.len() && out == expected {
         return Ok(());
     }
-    let ours = String::from_utf8_lossy(&out[..length.min(ROOM)]).into_owned();
+    let ours = String::from_utf8_lossy(&out[..length.min(room)]).into_owned();
     Err(format!(
-        "sheet printed {ours:?}, rules {:?}, text {:?}",
+        "sheet printed {length} bytes into {room}, {ours:?}, rules {:?}, text {:?}",
         String::from_utf8_lossy(&rules),
         String::from_utf8_lossy(text)
     ))
@@ -218,7 +247,10 @@ pub const CHECKS: usize = 8;
 /// One seeded case: four texts, a render, a redraw, a redraw of old layers, a view. What went wrong, for each.
 pub fn seeded(renderer: &dyn Renderer, seed: u64) -> Vec<String> {
     let mut random = Random::new(seed.wrapping_mul(0x5851_f42d_4c95_7f2d));
-    let [a, b, c, d] = [(); 4].map(|()| same_text(renderer, &texts::text(&mut random)));
+    let [a, b, c, d] = [(); 4].map(|()| {
+        let text = texts::text(&mut random);
+        same_text(renderer, &text, &mut random)
+    });
     let case = case(&mut random);
     let told = |result: Result<(), String>| result.map_err(|failure| format!("{failure}; {}", case.summary()));
     let full = told(same_call(renderer, &case, false));

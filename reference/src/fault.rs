@@ -85,6 +85,7 @@ faults! {
     WholeRegionRedrawn: "a redraw draws the whole region",
     ScratchLeft: "scratch is not cleared",
     RefusalClears: "a refusal clears scratch",
+    RefusalKeepsCount: "a refusal leaves the count as it was",
     ViewBeyondLast: "the view shows a layer after the last",
     // Refusals
     ThreeBeforeTwo: "3 is checked before 2",
@@ -123,6 +124,7 @@ faults! {
     SeventeenSteps: "a seventeenth step line is read",
     SevenBeforeFifteen: "7 is given before 15",
     LongTextRead: "a text over 32,768 bytes is read",
+    PrintedInPart: "an answer that does not fit is stored in part",
 }
 
 impl Fault {

@@ -15,6 +15,7 @@ extern "C" {
         workspace_length: usize,
         scratch: *mut u8,
         scratch_length: usize,
+        place: *mut u64,
     ) -> u64;
 
     fn twillgoose_redraw(
@@ -32,6 +33,7 @@ extern "C" {
         workspace_length: usize,
         scratch: *mut u8,
         scratch_length: usize,
+        place: *mut u64,
         count: *mut u64,
     ) -> u64;
 
@@ -40,8 +42,8 @@ extern "C" {
         height: usize,
         steps: usize,
         n: usize,
-        workspace: *const u8,
         workspace_length: usize,
+        offset: *mut u64,
     ) -> u64;
 
     fn twillgoose_sheet(text: *const u8, text_length: usize, out: *mut u8, out_length: usize) -> u64;
@@ -50,8 +52,8 @@ extern "C" {
 /// The library under comparison.
 pub struct Library;
 
-// SAFETY of every call: each pointer and length come from one slice that lives through the call, and the library
-// writes only to the slices that are lent to it as mutable.
+// SAFETY of every call: each pointer and length come from one slice, or a pointer from one number, that lives through the
+// call, and the library writes only to what is lent to it as mutable.
 impl Renderer for Library {
     fn render(
         &self,
@@ -61,6 +63,7 @@ impl Renderer for Library {
         source: &[u8],
         workspace: &mut [u8],
         scratch: &mut [u8],
+        place: &mut u64,
     ) -> u64 {
         unsafe {
             twillgoose_render(
@@ -74,6 +77,7 @@ impl Renderer for Library {
                 workspace.len(),
                 scratch.as_mut_ptr(),
                 scratch.len(),
+                place,
             )
         }
     }
@@ -87,6 +91,7 @@ impl Renderer for Library {
         source: &[u8],
         workspace: &mut [u8],
         scratch: &mut [u8],
+        place: &mut u64,
         count: &mut u64,
     ) -> u64 {
         unsafe {
@@ -105,13 +110,14 @@ impl Renderer for Library {
                 workspace.len(),
                 scratch.as_mut_ptr(),
                 scratch.len(),
+                place,
                 count,
             )
         }
     }
 
-    fn layer(&self, width: usize, height: usize, steps: usize, n: usize, workspace: &[u8]) -> u64 {
-        unsafe { twillgoose_layer(width, height, steps, n, workspace.as_ptr(), workspace.len()) }
+    fn layer(&self, width: usize, height: usize, steps: usize, n: usize, workspace: usize, offset: &mut u64) -> u64 {
+        unsafe { twillgoose_layer(width, height, steps, n, workspace, offset) }
     }
 
     fn sheet(&self, text: &[u8], out: &mut [u8]) -> u64 {

@@ -1,8 +1,13 @@
 //! The command line of the second program.
 
+use reference::compare::{Reference, Renderer};
 use reference::fault::Fault;
 use reference::random::Random;
-use reference::{budget, cases::{plans, texts}, print, sums};
+use reference::{
+    budget,
+    cases::{calls, plans, texts},
+    print, sums,
+};
 use std::io::{Read, Write};
 use std::path::Path;
 use std::process::ExitCode;
@@ -11,7 +16,9 @@ const USAGE: &str = "usage:
   reference sheet                    text from standard input, answer to standard output
   reference texts FOLDER [SEED]      writes FOLDER/texts and FOLDER/answers
   reference plans FOLDER [SEED]      writes FOLDER/plans.in and FOLDER/plans.expected
+  reference calls FOLDER [SEED]      writes FOLDER/calls.in and FOLDER/calls.expected
   reference sums                     checksums of large renders
+  reference sums-library             the same, by the proved library (feature `library`)
   reference faults [CASES]           tries every seeded fault
   reference selftest SECONDS [SEED]  the comparison, of the rules with themselves
   reference compare SECONDS [SEED]   the comparison with the proved library (feature `library`)
@@ -26,16 +33,17 @@ fn main() -> ExitCode {
         (["sheet"], ..) => sheet(),
         (["texts", folder] | ["texts", folder, _], _, Some(seed)) => write_texts(Path::new(folder), seed),
         (["plans", folder] | ["plans", folder, _], _, Some(seed)) => write_plans(Path::new(folder), seed),
-        (["sums"], ..) => {
-            print!("{}", sums::all());
-            ExitCode::SUCCESS
-        }
+        (["calls", folder] | ["calls", folder, _], _, Some(seed)) => write_calls(Path::new(folder), seed),
+        (["sums"], ..) => summed(&Reference(Fault::None)),
+        (["sums-library"], ..) => with_library(summed),
         (["faults"], ..) => faults(20_000),
         (["faults", _], Some(cases), _) => faults(cases),
         (["selftest", _] | ["selftest", _, _], Some(seconds), Some(seed)) => {
-            compared(&reference::compare::Reference(Fault::None), seconds, seed)
+            compared(&Reference(Fault::None), seconds, seed)
         }
-        (["compare", _] | ["compare", _, _], Some(seconds), Some(seed)) => with_library(seconds, seed),
+        (["compare", _] | ["compare", _, _], Some(seconds), Some(seed)) => {
+            with_library(|library| compared(library, seconds, seed))
+        }
         (["program", path], ..) => with_program(Path::new(path), 2000),
         (["program", path, _], _, Some(count)) => with_program(Path::new(path), count),
         _ => {
@@ -69,6 +77,11 @@ fn done(result: std::io::Result<()>) -> ExitCode {
 fn write_plans(folder: &Path, seed: u64) -> ExitCode {
     let (given, answers) = plans::entries(seed, 600);
     done(std::fs::write(folder.join("plans.in"), given).and(std::fs::write(folder.join("plans.expected"), answers)))
+}
+
+fn write_calls(folder: &Path, seed: u64) -> ExitCode {
+    let (given, answers) = calls::entries(seed, 1000);
+    done(std::fs::write(folder.join("calls.in"), given).and(std::fs::write(folder.join("calls.expected"), answers)))
 }
 
 /// Two files: a head line, then for each entry its length in decimal, a line feed, and its bytes.
@@ -118,7 +131,12 @@ fn last_line(tally: &budget::Tally) -> ExitCode {
     }
 }
 
-fn compared(renderer: &dyn reference::compare::Renderer, seconds: u64, seed: u64) -> ExitCode {
+fn summed(renderer: &dyn Renderer) -> ExitCode {
+    print!("{}", sums::all(renderer));
+    ExitCode::SUCCESS
+}
+
+fn compared(renderer: &dyn Renderer, seconds: u64, seed: u64) -> ExitCode {
     last_line(&budget::compare(renderer, seconds, seed))
 }
 
@@ -133,12 +151,12 @@ fn with_program(path: &Path, count: u64) -> ExitCode {
 }
 
 #[cfg(feature = "library")]
-fn with_library(seconds: u64, seed: u64) -> ExitCode {
-    compared(&reference::library::Library, seconds, seed)
+fn with_library(run: impl Fn(&dyn Renderer) -> ExitCode) -> ExitCode {
+    run(&reference::library::Library)
 }
 
 #[cfg(not(feature = "library"))]
-fn with_library(_: u64, _: u64) -> ExitCode {
-    eprintln!("built without the library: cargo run --release --features library -- compare SECONDS");
+fn with_library(_: impl Fn(&dyn Renderer) -> ExitCode) -> ExitCode {
+    eprintln!("built without the library: cargo run --release --features library -- ..");
     ExitCode::from(2)
 }

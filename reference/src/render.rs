@@ -97,11 +97,11 @@ fn store(layers: &[Picture], workspace: &mut [u8]) {
 }
 
 /// "For valid W, H, step count and workspace length and a layer below the count, the view is that layer's own bytes
-/// in the lent workspace, all 4·W·H; otherwise an empty part at its start." Where it begins, and its length.
-pub fn layer(width: usize, height: usize, steps: usize, n: usize, workspace: &[u8], fault: Fault) -> (usize, usize) {
+/// in the lent workspace, all 4·W·H; otherwise an empty part at its start." Where it begins, and its length, in a workspace
+/// of so many bytes.
+pub fn layer(width: usize, height: usize, steps: usize, n: usize, workspace: usize, fault: Fault) -> (usize, usize) {
     let sizes = side_is_wrong(width) || side_is_wrong(height) || steps == 0 || steps > MOST_STEPS;
-    if sizes || workspace.len() != 4 * width * height * steps || n >= steps + fault.choose(Fault::ViewBeyondLast, 0, 1)
-    {
+    if sizes || workspace != 4 * width * height * steps || n >= steps + fault.choose(Fault::ViewBeyondLast, 0, 1) {
         return (0, 0);
     }
     let size = 4 * width * height;

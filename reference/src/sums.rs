@@ -9,10 +9,8 @@
 //! Sums of a layer's bytes in order: `fnv` is FNV-1a with 64 bits; `poly` begins at 0 and becomes
 //! (poly · 257 + byte + 1) mod 4,294,967,291 with each byte.
 
-use crate::fault::Fault;
-use crate::render::{redraw, render, Sheet};
+use crate::compare::Renderer;
 use crate::step::Region;
-use crate::text::read_steps;
 
 pub const SEED: u32 = 2026;
 
@@ -75,25 +73,37 @@ fn line(name: &str, bytes: &[u8]) -> String {
     format!("{name}\tfnv {:016x}\tpoly {}\n", fnv(bytes), poly(bytes))
 }
 
-/// The sums of one sheet: every layer after the render, the count and the last layer after the edit's redraw.
-pub fn sheet(name: &str, lines: &str) -> String {
-    let steps = read_steps(lines.as_bytes(), Fault::None).expect("well formed");
-    let sheet = Sheet { width: SIDE, height: SIDE, steps: &steps };
-    let size = 4 * SIDE * SIDE;
-    let source = source(SEED, SIDE * SIDE);
-    let (mut workspace, mut scratch) = (vec![0; size * steps.len()], vec![0; 2 * size]);
-    let answer = render(sheet, &source, &mut workspace, &mut scratch, Fault::None);
-    let mut said = format!("{name}\tanswer {}\n", answer.packed());
-    for (n, layer) in workspace.chunks_exact(size).enumerate() {
-        said += &line(&format!("{name} layer {n}"), layer);
-    }
-    let (answer, count) = redraw(sheet, EDIT, &edited(&source), &mut workspace, &mut scratch, Fault::None);
-    said += &format!("{name} redraw\tanswer {}\tcount {count}\n", answer.packed());
-    said + &line(&format!("{name} redraw layer {}", steps.len() - 1), &workspace[size * (steps.len() - 1)..])
+/// Layer n of a workspace, where the renderer says that it lies.
+fn layer<'a>(renderer: &dyn Renderer, steps: usize, n: usize, workspace: &'a [u8]) -> &'a [u8] {
+    let mut offset = u64::MAX;
+    let length = renderer.layer(SIDE, SIDE, steps, n, workspace.len(), &mut offset);
+    &workspace[offset as usize..(offset + length) as usize]
 }
 
-/// What `reference sums` prints.
-pub fn all() -> String {
+/// The sums of one sheet: every layer after the render, the count and the last layer after the edit's redraw.
+fn sheet(renderer: &dyn Renderer, name: &str, lines: &str) -> String {
+    let (steps, count) = (lines.as_bytes(), lines.lines().count());
+    let size = 4 * SIDE * SIDE;
     let source = source(SEED, SIDE * SIDE);
-    line("source", &source) + &line("source edited", &edited(&source)) + &sheet("shadow", SHADOW) + &sheet("glow", GLOW)
+    let (mut workspace, mut scratch) = (vec![0; size * count], vec![0; 2 * size]);
+    let (mut place, mut worked) = (0, 0);
+    let number = renderer.render(SIDE, SIDE, steps, &source, &mut workspace, &mut scratch, &mut place);
+    let mut said = format!("{name}\tanswer {number}\n");
+    for n in 0..count {
+        said += &line(&format!("{name} layer {n}"), layer(renderer, count, n, &workspace));
+    }
+    let edited = edited(&source);
+    let number =
+        renderer.redraw(SIDE, SIDE, steps, EDIT, &edited, &mut workspace, &mut scratch, &mut place, &mut worked);
+    said += &format!("{name} redraw\tanswer {number}\tcount {worked}\n");
+    said + &line(&format!("{name} redraw layer {}", count - 1), layer(renderer, count, count - 1, &workspace))
+}
+
+/// What `reference sums` prints: the same from every renderer that follows the rules.
+pub fn all(renderer: &dyn Renderer) -> String {
+    let source = source(SEED, SIDE * SIDE);
+    line("source", &source)
+        + &line("source edited", &edited(&source))
+        + &sheet(renderer, "shadow", SHADOW)
+        + &sheet(renderer, "glow", GLOW)
 }

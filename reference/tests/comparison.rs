@@ -29,7 +29,7 @@ fn calls_of_every_answer() {
     let mut seen = [0; 16];
     for _ in 0..5_000 {
         let mut case = case(&mut random);
-        let mut count = 0;
+        let (mut place, mut count) = (0, 0);
         let answer = Reference(Fault::None).redraw(
             case.width,
             case.height,
@@ -38,9 +38,10 @@ fn calls_of_every_answer() {
             &case.source,
             &mut case.workspace,
             &mut case.scratch,
+            &mut place,
             &mut count,
         );
-        seen[(answer & 255) as usize] += 1;
+        seen[answer as usize] += 1;
     }
     for number in (0..16).filter(|number| *number != 12) {
         assert!(seen[number] >= 10, "{number}: {seen:?}");

@@ -220,9 +220,7 @@ fn a_refusal_leaves_the_buffers() {
 
 #[test]
 fn view() {
-    let workspace = [0; 3 * 24];
-    let shown =
-        |width, height, steps, n, length: usize| layer(width, height, steps, n, &workspace[..length], Fault::None);
+    let shown = |width, height, steps, n, length| layer(width, height, steps, n, length, Fault::None);
     assert_eq!(shown(2, 3, 3, 0, 72), (0, 24));
     assert_eq!(shown(2, 3, 3, 2, 72), (48, 24));
     for (width, height, steps, n, length) in [

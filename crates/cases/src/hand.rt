@@ -1,7 +1,6 @@
 // Document 01's "Checked by hand", those that numbers and pixels can answer: P1 to P5, P7, P8, P12, and the 'Run' cases of numbers.
 ghost use Rattle.pixel.specs.Alpha.{Valid};
 ghost use Rattle.pixel.specs.Coefficient.{Allowed};
-use super::field;
 use super::numbers;
 use super::pixels;
 use number::Fixed;
@@ -11,6 +10,7 @@ use number::Range;
 use pixel::Arithmetic;
 use pixel::Operator;
 use pixel::Pixel;
+use tables::field;
 
 fn opaque(r: u8, g: u8, b: u8) -> Pixel
     ensures { λ p. ⌜ Valid p ⌝ }

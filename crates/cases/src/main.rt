@@ -1,5 +1,4 @@
 // Runs the worked examples and the tables of data/, a line a case. The expected lines are worked out by other means: tests/.
-mod field;
 mod hand;
 mod numbers;
 mod pixels;

@@ -1,10 +1,10 @@
 // Numbers at every edge of every range: data/numbers.in, made by tests/number_cases.py.
 ghost use mathlib.Core.Path.{_≡_};
 ghost use lib.ListN.{length};
-use super::field;
 use number::Judged;
 use number::Number;
 use number::Range;
+use tables::field;
 
 fn range_of(digit: u8) -> Range {
     match digit {

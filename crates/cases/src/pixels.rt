@@ -4,13 +4,13 @@ ghost use Prim.Native.Nat.{_≤_, _<_};
 ghost use lib.ListN.{length};
 ghost use Rattle.pixel.specs.Alpha.{Valid};
 ghost use Rattle.pixel.specs.Coefficient.{Allowed, AllowedArithmetic, AllowedMatrix, AllowedRow};
-use super::field;
 use number::Fixed;
 use pixel::Arithmetic;
 use pixel::Matrix;
 use pixel::Operator;
 use pixel::Pixel;
 use pixel::Row;
+use tables::field;
 
 fn byte_at(line: &[u8], at: usize) -> u8
     requires { ⌜ length (now line) ≡ 199 ⌝ }

@@ -4,12 +4,12 @@ ghost use Prim.Native.Nat.{_*_, _≤_, _<_};
 ghost use lib.ListN.{length};
 ghost use Rattle.filter.specs.Bytes.{size};
 ghost use Rattle.filter.specs.Checks.{sizesAnswer};
-use super::field;
 use filter::Answer;
 use filter::Rect;
 use filter::Region;
 use filter::Sheet;
 use plan::Damages;
+use tables::field;
 
 fn side(head: &[u8], i: usize) -> usize
     requires { ⌜ (length (now head) ≡ 29) × (i < 7) ⌝ }

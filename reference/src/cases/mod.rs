@@ -1,7 +1,9 @@
 //! Random calls: sheets, pictures, buffers and rectangles, valid ones and damaged ones.
 
-pub mod plans;
+pub mod calls;
+mod listed;
 pub mod numbers;
+pub mod plans;
 pub mod spoil;
 pub mod texts;
 

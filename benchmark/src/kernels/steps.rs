@@ -1,5 +1,5 @@
 //! What is measured: each kernel over a whole picture, as a step would call it.
-use crate::canvas::{Canvas, HALF, SATURATION};
+use super::canvas::{Canvas, HALF, SATURATION};
 use crate::kernels;
 use std::hint::black_box;
 

@@ -1,5 +1,6 @@
 //! The pictures and work rows that the kernels are measured on.
-use crate::kernels::{self, Coefficients};
+use super::{prepare_arithmetic, prepare_luminance, prepare_saturate, prepare_unpremultiply, Coefficients};
+use crate::picture::{picture, ONE, OTHER};
 
 pub const HALF: Coefficients = [0, 32768, 32768, 0];
 pub const SATURATION: u64 = 32768;
@@ -26,30 +27,13 @@ pub struct Canvas {
     pub luminance: Box<[u32; 768]>,
 }
 
-/// A picture in which no colour exceeds its alpha, by a xorshift generator.
-fn picture(side: usize, mut state: u64) -> Vec<u8> {
-    let mut pixels = Vec::with_capacity(4 * side * side);
-    for _ in 0..side * side {
-        state ^= state << 13;
-        state ^= state >> 7;
-        state ^= state << 17;
-        let alpha = (state >> 56) as u32;
-        for shift in [0, 16, 32] {
-            let color = (state >> shift) as u16 as u32;
-            pixels.push((color % (alpha + 1)) as u8);
-        }
-        pixels.push(alpha as u8);
-    }
-    pixels
-}
-
 impl Canvas {
     pub fn new(side: usize) -> Canvas {
         let (row, size) = (4 * side, 4 * side * side);
         let mut canvas = Canvas {
             side,
-            a: picture(side, 0x9e3779b97f4a7c15),
-            b: picture(side, 0xd1b54a32d192ed03),
+            a: picture(side, ONE),
+            b: picture(side, OTHER),
             out: vec![1; size],
             pair: vec![1; 2 * size],
             tile: vec![0; 64 * side],
@@ -64,10 +48,10 @@ impl Canvas {
             inverse: Box::new([0; 512]),
             luminance: Box::new([0; 768]),
         };
-        kernels::prepare_arithmetic(HALF, &mut canvas.products);
-        kernels::prepare_saturate(SATURATION, &mut canvas.weights);
-        kernels::prepare_unpremultiply(&mut canvas.inverse);
-        kernels::prepare_luminance(&mut canvas.luminance);
+        prepare_arithmetic(HALF, &mut canvas.products);
+        prepare_saturate(SATURATION, &mut canvas.weights);
+        prepare_unpremultiply(&mut canvas.inverse);
+        prepare_luminance(&mut canvas.luminance);
         canvas
     }
 }

@@ -1,18 +1,14 @@
--- `cases::field::hex` meets its contract: the loop stays inside the line. Assumes nothing.
+-- `calls::lines::sum` meets its contract: the loop stays inside the slice. Assumes nothing.
 use Prim.Native.Nat.{_≤_, _-_}
-use native.Mathlib.Omega.{arith}
 use borrow.Author.Needs.{needs}
-use Rattle.cases.proofs.field.hex.Statement.{statement}
-use Rattle.cases.proofs.field.hex.Tie as tie
+use Rattle.calls.proofs.lines.sum.Statement.{statement}
+use Rattle.calls.proofs.lines.sum.Tie as tie
 
 abbrev Inv-loop : tie.InvT-loop
-Inv-loop line at count end value₀ i₀ value i = i ≤ end
+Inv-loop bytes n sum₀ i₀ sum i = i ≤ n
 
 abbrev μ-loop : tie.MeasureT-loop
-μ-loop line at count end value₀ i₀ value i = end - i
-
-add-end : tie.Need-add-end Inv-loop μ-loop
-add-end c = search needs
+μ-loop bytes n sum₀ i₀ sum i = n - i
 
 loop-holds : tie.Need-loop-holds Inv-loop μ-loop
 loop-holds c = search needs
@@ -35,13 +31,12 @@ loop-again c = search needs
 returns : tie.Need-returns Inv-loop μ-loop
 returns c = search needs
 
-pub hex-spec : {M : Type 1} → statement M
-hex-spec =
+pub sum-spec : {M : Type 1} → statement M
+sum-spec =
     tie.close
     (tie.spec
     Inv-loop
     μ-loop
-    add-end
     loop-holds
     shared-slice-read-next
     next-requires

@@ -1,4 +1,7 @@
 //! The names of crate `kernels`. A slice is a pointer and a length; the contracts stand in crates/kernels/src.
+mod canvas;
+mod steps;
+pub mod table;
 
 extern "C" {
     fn twillgoose_kernel_copy(src: *const u8, src_len: usize, dst: *mut u8, dst_len: usize);
@@ -135,7 +138,7 @@ pub fn first_invalid(s: &[u8], w: usize, h: usize) -> usize {
 
 pub fn composite_row(op: u8, a: &[u8], b: &[u8], f: &mut [u8], g: &mut [u8], dst: &mut [u8]) {
     let m = dst.len();
-    assert!(m % 4 == 0 && a.len() == m && b.len() == m && f.len() == m && g.len() == m);
+    assert!(m.is_multiple_of(4) && a.len() == m && b.len() == m && f.len() == m && g.len() == m);
     let (f, g, d) = (f.as_mut_ptr(), g.as_mut_ptr(), dst.as_mut_ptr());
     unsafe { twillgoose_kernel_composite_row(op, a.as_ptr(), m, b.as_ptr(), m, f, m, g, m, d, m, m / 4) }
 }
@@ -147,7 +150,7 @@ pub fn prepare_arithmetic([k1, k2, k3, k4]: Coefficients, table: &mut [u8; 65536
 
 pub fn combine_row([k1, k2, k3, k4]: Coefficients, table: &[u8; 65536], a: &[u8], b: &[u8], dst: &mut [u8]) {
     let m = dst.len();
-    assert!(m % 4 == 0 && a.len() == m && b.len() == m);
+    assert!(m.is_multiple_of(4) && a.len() == m && b.len() == m);
     let (t, d) = (table.as_ptr(), dst.as_mut_ptr());
     unsafe { twillgoose_kernel_combine_row(k1, k2, k3, k4, t, 65536, a.as_ptr(), m, b.as_ptr(), m, d, m, m / 4) }
 }
@@ -163,7 +166,7 @@ pub fn prepare_saturate(s: u64, table: &mut [u64; 4096]) {
 
 pub fn saturate_row(s: u64, table: &[u64; 4096], inverse: &[u32; 512], src: &[u8], dst: &mut [u8]) {
     let m = dst.len();
-    assert!(s <= 65536 && m % 4 == 0 && m <= 4096 && src.len() == m);
+    assert!(s <= 65536 && m.is_multiple_of(4) && m <= 4096 && src.len() == m);
     let (t, i, d) = (table.as_ptr(), inverse.as_ptr(), dst.as_mut_ptr());
     unsafe { twillgoose_kernel_saturate_row(s, t, 4096, i, 512, src.as_ptr(), m, d, m, m / 4) }
 }
@@ -174,7 +177,7 @@ pub fn prepare_luminance(table: &mut [u32; 768]) {
 
 pub fn luminance_row(table: &[u32; 768], inverse: &[u32; 512], src: &[u8], dst: &mut [u8]) {
     let m = dst.len();
-    assert!(m % 4 == 0 && src.len() == m);
+    assert!(m.is_multiple_of(4) && src.len() == m);
     let (t, i, d) = (table.as_ptr(), inverse.as_ptr(), dst.as_mut_ptr());
     unsafe { twillgoose_kernel_luminance_row(t, 768, i, 512, src.as_ptr(), m, d, m, m / 4) }
 }

@@ -1,0 +1,66 @@
+//! The sheets that are measured, for a canvas of any size from 64 × 64 on.
+
+pub struct Sheet {
+    pub name: String,
+    /// Step lines.
+    pub steps: String,
+    /// Whether a redraw is measured too.
+    pub redrawn: bool,
+}
+
+/// Each step is its kind, `@` for the whole canvas, and inputs and numbers, with spaces for tabs.
+fn sheet(side: usize, name: &str, redrawn: bool, steps: &[&str]) -> Sheet {
+    let whole = format!("0\t0\t{side}\t{side}");
+    let line = |step: &&str| step.replace('@', &whole).replace(' ', "\t") + "\n";
+    Sheet { name: name.into(), steps: steps.iter().map(line).collect(), redrawn }
+}
+
+/// A sepia that also thins out: none of its numbers is 0.
+const MATRIX: &str = "matrix @ src 0.393 0.769 0.189 0.01 0.02 0.349 0.686 0.168 0.01 0.01 0.272 0.534 0.131 0.01 -0.02 \
+                      0.05 0.05 0.05 0.8 0.01";
+
+/// A drop shadow: the alpha blurred and moved, tinted, under the picture.
+const SHADOW: [&str; 5] = ["blur @ alpha 6 4.5", "offset @ 0 12 8", "flood @ 16 16 64 0.6", "in @ 2 1", "merge @ 3 src"];
+
+/// A glow: the alpha widened and blurred, tinted and made stronger, under the picture. The blur has a region of its own.
+fn glow(side: usize) -> [String; 6] {
+    let inner = side - 16;
+    [
+        "dilate @ alpha 3 2".into(),
+        format!("blur 8 8 {inner} {inner} 0 9.3 9.3"),
+        "flood @ 255 220 64 0.9".into(),
+        "in @ 2 1".into(),
+        "arith @ 3 src 0 0.75 0.25 0.01".into(),
+        "over @ src 4".into(),
+    ]
+}
+
+/// The sheets in the order of the tables. Shadow and glow are those of the second program's `sums`.
+pub fn all(side: usize) -> Vec<Sheet> {
+    let one = |name: &str, redrawn: bool, step: &str| sheet(side, name, redrawn, &[step]);
+    let mut sheets = vec![
+        one("flood", true, "flood @ 16 32 64 0.5"),
+        one("offset", true, "offset @ src 37 -21"),
+        one("blur 1.5", true, "blur @ src 1.5 1.5"),
+        one("blur 32", true, "blur @ src 32 32"),
+    ];
+    for kind in ["erode", "dilate"] {
+        for radius in [1, 8, 64] {
+            let step = format!("{kind} @ src {radius} {radius}");
+            sheets.push(one(&format!("{kind} {radius}"), kind == "dilate" && radius == 8, &step));
+        }
+    }
+    sheets.push(one("matrix", true, MATRIX));
+    sheets.push(one("saturate", false, "saturate @ src 0.5"));
+    sheets.push(one("luminance to alpha", false, "lumalpha @ src"));
+    for kind in ["over", "in", "out", "atop", "xor"] {
+        sheets.push(one(kind, kind == "over", &format!("{kind} @ src alpha")));
+    }
+    sheets.push(one("arithmetic", true, "arith @ src alpha 0.2 0.6 0.3 0.01"));
+    sheets.push(one("merge of 2", false, "merge @ alpha src"));
+    sheets.push(one("merge of 4", true, "merge @ alpha src alpha src"));
+    sheets.push(sheet(side, "shadow sheet", true, &SHADOW));
+    let glow = glow(side);
+    sheets.push(sheet(side, "glow sheet", true, &glow.each_ref().map(String::as_str)));
+    sheets
+}

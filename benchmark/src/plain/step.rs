@@ -1,0 +1,39 @@
+//! A step as it is drawn: its numbers are whole pixels, units of 1/65,536 or bytes.
+use super::rect::Rect;
+
+#[derive(Clone, Copy)]
+pub enum Input {
+    Source,
+    Alpha,
+    Layer(usize),
+}
+
+#[derive(Clone, Copy)]
+pub enum Operator {
+    Over,
+    In,
+    Out,
+    Atop,
+    Xor,
+}
+
+#[derive(Clone, Copy)]
+pub enum Work {
+    Flood([u8; 4]),
+    Offset([i32; 2]),
+    /// The size of the boxes, across and down.
+    Blur([usize; 2]),
+    Erode([usize; 2]),
+    Dilate([usize; 2]),
+    Matrix([i64; 20]),
+    Luminance,
+    Composite(Operator),
+    Arithmetic([i64; 4]),
+    Merge,
+}
+
+pub struct Step {
+    pub work: Work,
+    pub region: Rect,
+    pub inputs: Vec<Input>,
+}

@@ -1,0 +1,108 @@
+//! The plain version against the second program, byte for byte.
+use super::Plain;
+use crate::calls::{Answer, Call, Region, Renderer};
+use reference::cases::{damage_picture, picture, region, sheet};
+use reference::fault::Fault;
+use reference::random::Random;
+use reference::render::{redraw, render, Sheet};
+use reference::{check, print, step, text};
+
+/// The second program in the place of the proved library, with a fault or without.
+pub struct Second(pub Fault);
+
+fn answer(answer: check::Answer, count: u64) -> Answer {
+    Answer { number: answer.number.into(), place: answer.place, count }
+}
+
+impl Renderer for Second {
+    fn render(&self, call: Call) -> Answer {
+        let steps = text::read_steps(call.steps, self.0).expect("well formed");
+        let sheet = Sheet { width: call.width, height: call.height, steps: &steps };
+        answer(render(sheet, call.source, call.workspace, call.scratch, self.0), 0)
+    }
+
+    fn redraw(&self, call: Call, named: Region) -> Answer {
+        let steps = text::read_steps(call.steps, self.0).expect("well formed");
+        let sheet = Sheet { width: call.width, height: call.height, steps: &steps };
+        let Region { x, y, width, height } = named;
+        let rect = step::Region { x, y, width, height };
+        let (said, count) = redraw(sheet, rect, call.source, call.workspace, call.scratch, self.0);
+        answer(said, count)
+    }
+}
+
+struct Case {
+    width: usize,
+    height: usize,
+    steps: Vec<u8>,
+    named: Region,
+    source: Vec<u8>,
+    workspace: Vec<u8>,
+    scratch: Vec<u8>,
+}
+
+/// A case of these step lines, now and then with a buffer that is refused.
+fn case(random: &mut Random, width: usize, height: usize, steps: String) -> Case {
+    let (size, count) = (width * height, steps.lines().count());
+    let step::Region { x, y, width: across, height: down } = region(random, width, height);
+    let named = Region { x, y, width: across, height: down };
+    let (mut source, mut workspace) = (picture(random, size), picture(random, size * count));
+    let mut scratch: Vec<u8> = (0..8 * size).map(|_| random.byte()).collect();
+    match random.below(40) {
+        0 => damage_picture(random, &mut source),
+        1 => damage_picture(random, &mut workspace),
+        2 => drop(source.pop()),
+        3 => workspace.push(0),
+        4 => scratch.push(0),
+        _ => {}
+    }
+    Case { width, height, steps: steps.into_bytes(), named, source, workspace, scratch }
+}
+
+/// Answer, workspace and scratch of a call.
+fn after(case: &Case, partly: bool, by: &dyn Renderer) -> (Answer, Vec<u8>, Vec<u8>) {
+    let (mut workspace, mut scratch) = (case.workspace.clone(), case.scratch.clone());
+    let Case { width, height, steps, source, .. } = case;
+    let call = Call { width: *width, height: *height, steps, source, workspace: &mut workspace, scratch: &mut scratch };
+    let answer = if partly { by.redraw(call, case.named) } else { by.render(call) };
+    (answer, workspace, scratch)
+}
+
+fn same(case: &Case) {
+    let first = |a: &[u8], b: &[u8]| a.iter().zip(b).position(|(a, b)| a != b);
+    for partly in [false, true] {
+        let (plain, second) = (after(case, partly, &Plain), after(case, partly, &Second(Fault::None)));
+        let said = || format!("redraw {partly}, {} x {}: {}", case.width, case.height, String::from_utf8_lossy(&case.steps));
+        assert_eq!(plain.0, second.0, "{}", said());
+        assert_eq!(first(&plain.1, &second.1), None, "workspace, {}", said());
+        assert_eq!(first(&plain.2, &second.2), None, "scratch, {}", said());
+    }
+}
+
+#[test]
+fn random_sheets() {
+    let mut random = Random::new(7);
+    let side = |random: &mut Random| if random.once_in(12) { 140 } else { 1 + random.below(40) };
+    for _ in 0..3000 {
+        let (width, height, count) = (side(&mut random), side(&mut random), 1 + random.below(5));
+        let steps = print::steps(&sheet(&mut random, count, width, height, false), random.below(5));
+        same(&case(&mut random, width, height, steps));
+    }
+}
+
+/// Windows of every size, on canvases that they leave on one side, on both, or not.
+#[test]
+fn every_window() {
+    let mut random = Random::new(8);
+    for n in 0..=64 {
+        for kind in ["erode", "dilate", "blur"] {
+            let number = |n: usize| if kind == "blur" { format!("{}.{}", n / 2, n % 2 * 5) } else { n.to_string() };
+            for (across, down) in [(n, 0), (0, n), (n, n), (random.below(65), n)] {
+                let (width, height) = (1 + random.below(n + 20), 1 + random.below(n + 20));
+                let step::Region { x, y, width: w, height: h } = region(&mut random, width, height);
+                let steps = format!("{kind}\t{x}\t{y}\t{w}\t{h}\tsrc\t{}\t{}\n", number(across), number(down));
+                same(&case(&mut random, width, height, steps));
+            }
+        }
+    }
+}

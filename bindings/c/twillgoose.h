@@ -1,0 +1,117 @@
+/* Twillgoose: sheets of SVG filter steps drawn into buffers that the caller lends.
+ *
+ * Link target/staticlib/libcapi.a, which `rt staticlib capi` writes.
+ *
+ * A picture of W by H pixels (1 to 1,024 each) has 4 * W * H bytes: rows from top to bottom, four bytes R, G, B, A a
+ * pixel, premultiplied (no colour above its alpha). A sheet has 1 to 16 steps, numbered from 0; step n draws layer n,
+ * and the workspace holds the layers one after another.
+ *
+ * A slice is a pointer and its length in bytes. Every length and every number is checked: what does not fit is refused,
+ * and a refusal changes no byte of any slice. What the library cannot check is the caller's part: a pointer is not null
+ * and has that many bytes behind it, and what is written does not overlap anything else that is passed.
+ *
+ * Steps are lines of text, each closed by a line feed, their fields parted by one tab: kind, x, y, width, height of its
+ * region, inputs (src, alpha, or the number of an earlier step), numbers:
+ *
+ *     flood     R G B opacity           bytes; 0 to 1
+ *     offset    input dx dy             whole, -1024 to 1024
+ *     blur      input sx sy             0 to 32
+ *     erode     input rx ry             whole, 0 to 64
+ *     dilate    input rx ry             whole, 0 to 64
+ *     matrix    input m1 .. m20         four rows of five, -256 to 256
+ *     saturate  input s                 0 to 1
+ *     lumalpha  input
+ *     over, in, out, atop, xor          top bottom
+ *     arith     input input k1 .. k4    -256 to 256
+ *     merge     1 to 4 inputs           bottom first
+ *
+ * A number is a decimal with at most five digits before and four after the point, or x and the eight hexadecimal digits
+ * of a single.
+ *
+ * Answers, in the order of checking. The place is 0 unless said:
+ *
+ *      0  done
+ *     15  text: a line is not of the form                               place: the line, from 1
+ *      1  width or height is 0 or above 1,024
+ *      2  the source is not 4 * W * H bytes
+ *      3  no step, or more than 16
+ *      4  the workspace is not 4 * W * H * steps bytes
+ *      5  the scratch buffer is not 8 * W * H bytes
+ *      6  redraw: the rectangle is not inside the canvas
+ *      7  an input is not the source, its alpha or an earlier step      place: the step
+ *      8  a number is not a number, or infinite                         place: the step
+ *      9  a number below zero whose range starts at 0                   place: the step
+ *     10  a number outside its range otherwise                          place: the step
+ *     11  a number that must be whole and is not                        place: the step
+ *     12  255 times a blur's widest box is above 65,535                 place: the step
+ *     13  a region leaves the canvas                                    place: the step
+ *     14  a colour exceeds its alpha: in the source, then in a          place: the pixel, from 0
+ *         redraw in the workspace
+ */
+#ifndef TWILLGOOSE_H
+#define TWILLGOOSE_H
+
+#include <stddef.h>
+#include <stdint.h>
+
+#ifdef __cplusplus
+extern "C" {
+#endif
+
+enum {
+    TWILLGOOSE_DONE = 0,
+    TWILLGOOSE_CANVAS = 1,
+    TWILLGOOSE_SOURCE = 2,
+    TWILLGOOSE_STEP_COUNT = 3,
+    TWILLGOOSE_WORKSPACE = 4,
+    TWILLGOOSE_SCRATCH = 5,
+    TWILLGOOSE_RECTANGLE = 6,
+    TWILLGOOSE_INPUT = 7,
+    TWILLGOOSE_NOT_FINITE = 8,
+    TWILLGOOSE_NEGATIVE = 9,
+    TWILLGOOSE_OUT_OF_RANGE = 10,
+    TWILLGOOSE_NOT_WHOLE = 11,
+    TWILLGOOSE_WIDE_BOX = 12,
+    TWILLGOOSE_OUTSIDE_CANVAS = 13,
+    TWILLGOOSE_ABOVE_ALPHA = 14,
+    TWILLGOOSE_LINE = 15
+};
+
+/* Draws every layer of the steps on the picture in `source`. Returns the number and stores the place. Done: `workspace`
+ * holds the layers, each a valid picture, and `scratch` is all zero. Refused: both are as they were. */
+uint64_t twillgoose_render(size_t width, size_t height,
+                           const uint8_t *steps, size_t steps_length,
+                           const uint8_t *source, size_t source_length,
+                           uint8_t *workspace, size_t workspace_length,
+                           uint8_t *scratch, size_t scratch_length,
+                           uint64_t *place);
+
+/* Brings the layers in `workspace` up to date with `source`, where it has changed inside the rectangle only. Returns the
+ * number, stores the place, and the count of pixels worked (0 when refused). Done: if `workspace` held the layers of a
+ * picture that differs from `source` inside the rectangle only, it now holds those of `source`, as a full render draws
+ * them; whatever it held, no pixel outside the part that the steps derive from the rectangle is altered; `scratch` is all
+ * zero. Refused: both are as they were. The rectangle may be empty, and lies inside the canvas all the same. */
+uint64_t twillgoose_redraw(size_t width, size_t height,
+                           const uint8_t *steps, size_t steps_length,
+                           size_t x, size_t y, size_t rect_width, size_t rect_height,
+                           const uint8_t *source, size_t source_length,
+                           uint8_t *workspace, size_t workspace_length,
+                           uint8_t *scratch, size_t scratch_length,
+                           uint64_t *place, uint64_t *count);
+
+/* Where layer n lies in a workspace of so many bytes: returns its length, 4 * W * H, and stores the offset of its first
+ * byte. Both are 0 where the canvas, the count of steps or the length is not valid, or there is no such layer. */
+uint64_t twillgoose_layer(size_t width, size_t height, size_t steps, size_t n, size_t workspace_length,
+                          uint64_t *offset);
+
+/* Answers a whole sheet as text (a `canvas` line, steps, rows of pixels), as the program `sheet` does: `ok` and the last
+ * layer as rows, or `refused`, number and place. Returns the length of the answer, which is stored at the start of `out`
+ * where it fits; otherwise `out` is as it was. 2,371 bytes are enough for every answer. */
+uint64_t twillgoose_sheet(const uint8_t *text, size_t text_length,
+                          uint8_t *out, size_t out_length);
+
+#ifdef __cplusplus
+}
+#endif
+
+#endif

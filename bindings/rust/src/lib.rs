@@ -1,0 +1,144 @@
+//! Sheets of SVG filter steps drawn into buffers that the caller lends, by a library whose every function is proved to
+//! meet its contract.
+//!
+//! A picture of `width` by `height` pixels (1 to 1,024 each) is a slice of [`picture_len`] bytes: rows from top to bottom,
+//! four bytes R, G, B, A a pixel, premultiplied, so that no colour exceeds its alpha. A sheet has 1 to 16 steps, numbered
+//! from 0; step n draws layer n, and the workspace holds the layers one after another.
+//!
+//! Steps are lines of text, each closed by a line feed, their fields parted by one tab: kind, x, y, width and height of
+//! the step's region, inputs (`src`, `alpha`, or the number of an earlier step), numbers.
+//!
+//! ```
+//! // A half transparent red on the left pixel, the source under it.
+//! let steps = "flood\t0\t0\t1\t1\t255\t0\t0\t0.5\nover\t0\t0\t2\t1\t0\tsrc\n";
+//! let (width, height) = (2, 1);
+//! let source = [0x00, 0x00, 0xff, 0xff, 0x00, 0x00, 0x00, 0x80];
+//! let mut workspace = vec![0; twillgoose::workspace_len(width, height, 2)];
+//! let mut scratch = vec![0; twillgoose::scratch_len(width, height)];
+//! twillgoose::render(width, height, steps, &source, &mut workspace, &mut scratch)?;
+//! let last = twillgoose::layer(width, height, 2, 1, &workspace);
+//! assert_eq!(last, Some(&[0x80, 0x00, 0x7f, 0xff, 0x00, 0x00, 0x00, 0x80][..]));
+//! # Ok::<(), twillgoose::Refusal>(())
+//! ```
+//!
+//! | Kind | Inputs and numbers | Allowed |
+//! |---|---|---|
+//! | `flood` | R, G, B, opacity | bytes; 0 to 1 |
+//! | `offset` | input, dx, dy | −1,024 to 1,024, whole |
+//! | `blur` | input, sx, sy | 0 to 32 |
+//! | `erode`, `dilate` | input, rx, ry | 0 to 64, whole |
+//! | `matrix` | input, 20 numbers, four rows of five | −256 to 256 |
+//! | `saturate` | input, s | 0 to 1 |
+//! | `lumalpha` | input | |
+//! | `over`, `in`, `out`, `atop`, `xor` | top, bottom | |
+//! | `arith` | input, input, k1 to k4 | −256 to 256 |
+//! | `merge` | 1 to 4 inputs, bottom first | |
+//!
+//! A number is a decimal with at most five digits before and four after the point, or `x` and the eight hexadecimal
+//! digits of a single. A [`Refusal`] says what is wrong with a call, and changes no byte that was lent.
+
+#![warn(missing_docs)]
+
+mod raw;
+mod refusal;
+
+pub use refusal::Refusal;
+
+/// A part of the canvas in whole pixels.
+#[derive(Clone, Copy, PartialEq, Eq, Debug, Default)]
+pub struct Rect {
+    /// The first column.
+    pub x: usize,
+    /// The first row.
+    pub y: usize,
+    /// How many columns; 0 is an empty rectangle.
+    pub width: usize,
+    /// How many rows; 0 is an empty rectangle.
+    pub height: usize,
+}
+
+/// The bytes of a picture. Sizes that no call accepts may give any length.
+pub fn picture_len(width: usize, height: usize) -> usize {
+    width.saturating_mul(height).saturating_mul(4)
+}
+
+/// The bytes of a workspace for so many steps.
+pub fn workspace_len(width: usize, height: usize, steps: usize) -> usize {
+    picture_len(width, height).saturating_mul(steps)
+}
+
+/// The bytes of a scratch buffer.
+pub fn scratch_len(width: usize, height: usize) -> usize {
+    picture_len(width, height).saturating_mul(2)
+}
+
+/// Draws every layer of the steps on the picture in `source`.
+///
+/// Done, `workspace` holds the layers, each a valid picture, and `scratch` is all zero. Refused, both are as they were.
+///
+/// # Errors
+///
+/// The first thing that is wrong, in the order of checking: any [`Refusal`] but `Rectangle`.
+pub fn render(
+    width: usize,
+    height: usize,
+    steps: impl AsRef<[u8]>,
+    source: &[u8],
+    workspace: &mut [u8],
+    scratch: &mut [u8],
+) -> Result<(), Refusal> {
+    let (number, place) = raw::render(width, height, steps.as_ref(), source, workspace, scratch);
+    refusal::refused(number, place).map_or(Ok(()), Err)
+}
+
+/// Brings the layers in `workspace` up to date with `source`, which has changed inside `rect` only. Returns how many
+/// pixels were worked.
+///
+/// Done, a `workspace` that held the layers of a picture that differs from `source` inside `rect` only holds those of
+/// `source`, as [`render`] draws them; whatever it held, no pixel outside the part that the steps derive from `rect` is
+/// altered; `scratch` is all zero. Refused, both are as they were.
+///
+/// # Errors
+///
+/// The first thing that is wrong, in the order of checking: any [`Refusal`].
+pub fn redraw(
+    width: usize,
+    height: usize,
+    steps: impl AsRef<[u8]>,
+    rect: Rect,
+    source: &[u8],
+    workspace: &mut [u8],
+    scratch: &mut [u8],
+) -> Result<u64, Refusal> {
+    let (number, place, count) = raw::redraw(width, height, steps.as_ref(), rect, source, workspace, scratch);
+    refusal::refused(number, place).map_or(Ok(count), Err)
+}
+
+/// The bytes of layer `n` in a workspace of `steps` layers; nothing where the sizes are not valid or there is no such
+/// layer.
+pub fn layer(width: usize, height: usize, steps: usize, n: usize, workspace: &[u8]) -> Option<&[u8]> {
+    let (offset, length) = raw::layer(width, height, steps, n, workspace.len());
+    workspace.get(offset..)?.get(..length).filter(|layer| !layer.is_empty())
+}
+
+/// The longest answer of [`sheet`]: 16 rows of 16 pixels.
+pub const LONGEST_ANSWER: usize = 3 + 16 * (4 + 16 * 9);
+
+/// Answers a whole sheet as text (a `canvas` line, step lines, rows of pixels), as the program `sheet` does: `ok` and the
+/// last layer as `row` lines, or one line of `refused`, number and place.
+///
+/// ```
+/// let text = b"canvas\t1\t1\nlumalpha\t0\t0\t1\t1\tsrc\nrow\tffffffff\n";
+/// assert_eq!(twillgoose::sheet(text), b"ok\nrow\t000000ff\n");
+/// assert_eq!(twillgoose::sheet(b"canvas\t1\t1\n"), b"refused\t15\t2\n");
+/// ```
+pub fn sheet(text: &[u8]) -> Vec<u8> {
+    let mut out = vec![0; LONGEST_ANSWER];
+    let length = raw::sheet(text, &mut out);
+    if length > out.len() {
+        out.resize(length, 0);
+        raw::sheet(text, &mut out);
+    }
+    out.truncate(length);
+    out
+}

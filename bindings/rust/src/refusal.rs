@@ -1,0 +1,142 @@
+//! Why a call is refused.
+
+use std::fmt::{Display, Formatter};
+
+/// Why a call was refused: the first thing that is wrong, with its place.
+#[derive(Clone, Copy, PartialEq, Eq, Debug)]
+pub enum Refusal {
+    /// 1: the width or the height is 0 or above 1,024.
+    Canvas,
+    /// 2: the source's length is not 4 · width · height.
+    Source,
+    /// 3: there is no step, or more than 16.
+    StepCount,
+    /// 4: the workspace's length is not 4 · width · height · steps.
+    Workspace,
+    /// 5: the scratch buffer's length is not 8 · width · height.
+    Scratch,
+    /// 6: the rectangle of a redraw is not inside the canvas.
+    Rectangle,
+    /// 7: an input of this step is not the source, its alpha or an earlier step.
+    Input(usize),
+    /// 8: a number of this step is not a number, or infinite.
+    NotFinite(usize),
+    /// 9: a number of this step is below zero, and its range starts at 0.
+    Negative(usize),
+    /// 10: a number of this step is outside its range otherwise.
+    OutOfRange(usize),
+    /// 11: a number of this step must be whole and is not.
+    NotWhole(usize),
+    /// 12: 255 times the widest box of this blur is above 65,535.
+    WideBox(usize),
+    /// 13: the region of this step leaves the canvas.
+    OutsideCanvas(usize),
+    /// 14: a colour of this pixel exceeds its alpha, in the source or, in a redraw, in the workspace.
+    AboveAlpha(usize),
+    /// 15: this line, counted from 1, is not of the form.
+    Line(usize),
+}
+
+impl Refusal {
+    /// The refusal's number, 1 to 15.
+    pub fn number(self) -> u8 {
+        match self {
+            Refusal::Canvas => 1,
+            Refusal::Source => 2,
+            Refusal::StepCount => 3,
+            Refusal::Workspace => 4,
+            Refusal::Scratch => 5,
+            Refusal::Rectangle => 6,
+            Refusal::Input(_) => 7,
+            Refusal::NotFinite(_) => 8,
+            Refusal::Negative(_) => 9,
+            Refusal::OutOfRange(_) => 10,
+            Refusal::NotWhole(_) => 11,
+            Refusal::WideBox(_) => 12,
+            Refusal::OutsideCanvas(_) => 13,
+            Refusal::AboveAlpha(_) => 14,
+            Refusal::Line(_) => 15,
+        }
+    }
+
+    /// The step, pixel or line; 0 where there is none.
+    pub fn place(self) -> usize {
+        match self {
+            Refusal::Input(place)
+            | Refusal::NotFinite(place)
+            | Refusal::Negative(place)
+            | Refusal::OutOfRange(place)
+            | Refusal::NotWhole(place)
+            | Refusal::WideBox(place)
+            | Refusal::OutsideCanvas(place)
+            | Refusal::AboveAlpha(place)
+            | Refusal::Line(place) => place,
+            _ => 0,
+        }
+    }
+}
+
+impl Display for Refusal {
+    fn fmt(&self, out: &mut Formatter) -> std::fmt::Result {
+        match self {
+            Refusal::Canvas => write!(out, "width or height is 0 or above 1,024"),
+            Refusal::Source => write!(out, "the source's length does not fit the canvas"),
+            Refusal::StepCount => write!(out, "a sheet has 1 to 16 steps"),
+            Refusal::Workspace => write!(out, "the workspace's length does not fit the canvas and the steps"),
+            Refusal::Scratch => write!(out, "the scratch buffer's length does not fit the canvas"),
+            Refusal::Rectangle => write!(out, "the rectangle is not inside the canvas"),
+            Refusal::Input(step) => write!(out, "step {step}: an input is not allowed"),
+            Refusal::NotFinite(step) => write!(out, "step {step}: a number is not finite"),
+            Refusal::Negative(step) => write!(out, "step {step}: a number is below zero"),
+            Refusal::OutOfRange(step) => write!(out, "step {step}: a number is outside its range"),
+            Refusal::NotWhole(step) => write!(out, "step {step}: a number is not whole"),
+            Refusal::WideBox(step) => write!(out, "step {step}: the blur is too wide"),
+            Refusal::OutsideCanvas(step) => write!(out, "step {step}: the region leaves the canvas"),
+            Refusal::AboveAlpha(pixel) => write!(out, "pixel {pixel}: a colour exceeds its alpha"),
+            Refusal::Line(line) => write!(out, "line {line} is not of the form"),
+        }
+    }
+}
+
+impl std::error::Error for Refusal {}
+
+/// The refusal of an answer's number and place; nothing where the number is 0.
+pub(crate) fn refused(number: u64, place: u64) -> Option<Refusal> {
+    let place = place as usize;
+    let refusal = match number {
+        0 => return None,
+        1 => Refusal::Canvas,
+        2 => Refusal::Source,
+        3 => Refusal::StepCount,
+        4 => Refusal::Workspace,
+        5 => Refusal::Scratch,
+        6 => Refusal::Rectangle,
+        7 => Refusal::Input(place),
+        8 => Refusal::NotFinite(place),
+        9 => Refusal::Negative(place),
+        10 => Refusal::OutOfRange(place),
+        11 => Refusal::NotWhole(place),
+        12 => Refusal::WideBox(place),
+        13 => Refusal::OutsideCanvas(place),
+        14 => Refusal::AboveAlpha(place),
+        15 => Refusal::Line(place),
+        _ => unreachable!("the library's numbers are 0 to 15"),
+    };
+    Some(refusal)
+}
+
+#[cfg(test)]
+mod tests {
+    use super::refused;
+
+    #[test]
+    fn numbers_and_places_come_back() {
+        for number in 1..=15 {
+            let refusal = refused(number, 9).expect("refused");
+            assert_eq!(u64::from(refusal.number()), number);
+            assert_eq!(refusal.place(), if number <= 6 { 0 } else { 9 });
+            assert!(!refusal.to_string().is_empty());
+        }
+        assert_eq!(refused(0, 0), None);
+    }
+}

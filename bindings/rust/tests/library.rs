@@ -1,0 +1,115 @@
+//! The library on document 01's worked examples, and on calls that it must refuse.
+
+use twillgoose::{layer, redraw, render, scratch_len, sheet, workspace_len, Rect, Refusal};
+
+/// Steps with spaces for tabs.
+fn lines(steps: &str) -> String {
+    steps.replace(' ', "\t")
+}
+
+fn count(steps: &str) -> usize {
+    steps.lines().count()
+}
+
+/// The workspace after a render.
+fn rendered(width: usize, height: usize, steps: &str, source: &[u8]) -> Result<Vec<u8>, Refusal> {
+    let mut workspace = vec![7; workspace_len(width, height, count(steps))];
+    let mut scratch = vec![7; scratch_len(width, height)];
+    let answer = render(width, height, &lines(steps), source, &mut workspace, &mut scratch);
+    let left = if answer.is_ok() { 0 } else { 7 };
+    assert!(scratch.iter().all(|byte| *byte == left));
+    if answer.is_err() {
+        assert!(workspace.iter().all(|byte| *byte == 7));
+    }
+    answer.map(|()| workspace)
+}
+
+fn last_layer(width: usize, height: usize, steps: &str, source: &[u8]) -> Vec<u8> {
+    let workspace = rendered(width, height, steps, source).expect("accepted");
+    layer(width, height, count(steps), count(steps) - 1, &workspace).expect("a layer").to_vec()
+}
+
+fn alphas(alphas: &[u8]) -> Vec<u8> {
+    alphas.iter().flat_map(|alpha| [0, 0, 0, *alpha]).collect()
+}
+
+#[test]
+fn over() {
+    let steps = "flood 0 0 1 1 255 0 0 0.5\nover 0 0 1 1 0 src\n";
+    assert_eq!(last_layer(1, 1, steps, &[0, 0, 255, 255]), [0x80, 0, 0x7f, 0xff]);
+}
+
+#[test]
+fn blur_and_dilate() {
+    let row = alphas(&[0, 0, 255, 0, 0]);
+    assert_eq!(last_layer(5, 1, "blur 0 0 5 1 src 1.5 0\n", &row), alphas(&[28, 57, 66, 57, 28]));
+    let row = alphas(&[0, 255, 0]);
+    assert_eq!(last_layer(3, 1, "dilate 0 0 3 1 src 1 0\n", &row), alphas(&[0, 255, 255]));
+}
+
+#[test]
+fn a_redraw_gives_the_new_layers() {
+    let steps = "dilate 0 0 8 1 src 1 0\nblur 0 0 8 1 0 1 0\n";
+    let old = alphas(&[9, 0, 0, 200, 0, 0, 30, 0]);
+    let mut new = old.clone();
+    new[15] = 255;
+    let mut workspace = rendered(8, 1, steps, &old).expect("accepted");
+    let mut scratch = vec![1; scratch_len(8, 1)];
+    let rect = Rect { x: 3, y: 0, width: 1, height: 1 };
+    let count = redraw(8, 1, &lines(steps), rect, &new, &mut workspace, &mut scratch);
+    assert_eq!(count, Ok(2 + 6));
+    assert_eq!(workspace, rendered(8, 1, steps, &new).expect("accepted"));
+    assert_eq!(scratch, vec![0; scratch_len(8, 1)]);
+}
+
+#[test]
+fn refusals_with_their_places() {
+    let clear = "lumalpha 0 0 1 1 src\n";
+    let refused = |steps: &str| rendered(1, 1, &format!("{clear}{steps}"), &[0; 4]).expect_err("refused");
+    assert_eq!(refused("blur 0 0 1 1 src -0.0001 0\n"), Refusal::Negative(1));
+    assert_eq!(refused("blur 0 0 1 1 src x42000001 0\n"), Refusal::OutOfRange(1));
+    assert_eq!(refused("blur 0 0 1 1 src x7fc00000 0\n"), Refusal::NotFinite(1));
+    assert_eq!(refused("offset 0 0 1 1 src 0.5 0\n"), Refusal::NotWhole(1));
+    assert_eq!(refused("lumalpha 1 0 1 1 src\n"), Refusal::OutsideCanvas(1));
+    assert_eq!(refused("lumalpha 0 0 1 1 1\n"), Refusal::Input(1));
+    assert_eq!(refused("lumalpha 0 0 1 1 01\n"), Refusal::Line(2));
+    assert_eq!(rendered(1, 1, clear, &[0, 1, 0, 0]), Err(Refusal::AboveAlpha(0)));
+    assert_eq!(rendered(1, 1, "", &[0; 4]), Err(Refusal::StepCount));
+    assert_eq!(rendered(1, 1, clear, &[0; 3]), Err(Refusal::Source));
+    assert_eq!(rendered(0, 1, clear, &[]), Err(Refusal::Canvas));
+    assert!(rendered(1, 1, "blur 0 0 1 1 src x80000000 32\n", &[0; 4]).is_ok());
+}
+
+#[test]
+fn refused_buffers_and_rectangles() {
+    let steps = lines("lumalpha 0 0 1 1 src\n");
+    let (mut layers, mut scratch) = ([0; 4], [0; 8]);
+    assert_eq!(render(1, 1, &steps, &[0; 4], &mut layers[..3], &mut scratch), Err(Refusal::Workspace));
+    assert_eq!(render(1, 1, &steps, &[0; 4], &mut layers, &mut []), Err(Refusal::Scratch));
+    let rect = Rect { x: usize::MAX, y: 0, width: 2, height: 0 };
+    assert_eq!(redraw(1, 1, &steps, rect, &[0; 4], &mut layers, &mut scratch), Err(Refusal::Rectangle));
+    assert_eq!(redraw(1, 1, &steps, Rect::default(), &[0; 4], &mut layers, &mut scratch), Ok(0));
+    layers[1] = 1;
+    let answer = redraw(1, 1, &steps, Rect::default(), &[0; 4], &mut layers, &mut scratch);
+    assert_eq!(answer, Err(Refusal::AboveAlpha(0)));
+}
+
+#[test]
+fn layers_that_are_not_there() {
+    let workspace = [1; 16];
+    assert_eq!(layer(2, 1, 2, 1, &workspace), Some(&workspace[8..]));
+    for (width, height, steps, n) in [(2, 1, 2, 2), (0, 1, 2, 0), (2, 2, 2, 0), (2, 1, 0, 0), (usize::MAX, 1, 1, 0)] {
+        assert_eq!(layer(width, height, steps, n, &workspace), None);
+    }
+}
+
+#[test]
+fn sheets_as_text() {
+    let text = "canvas\t2\t1\nflood\t0\t0\t1\t1\t255\t0\t0\t0.5\nover\t0\t0\t2\t1\t0\tsrc\nrow\t0000ffff\t00000080\n";
+    assert_eq!(sheet(text.as_bytes()), b"ok\nrow\t80007fff\t00000080\n");
+    assert_eq!(sheet(b""), b"refused\t15\t1\n");
+    assert_eq!(sheet(&[0; 32_769]), b"refused\t15\t0\n");
+    let row = format!("row{}\n", "\t00000000".repeat(16)).repeat(16);
+    let largest = format!("canvas\t16\t16\nlumalpha\t0\t0\t16\t16\tsrc\n{row}");
+    assert_eq!(sheet(largest.as_bytes()).len(), twillgoose::LONGEST_ANSWER);
+}
