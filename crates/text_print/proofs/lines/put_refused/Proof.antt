@@ -25,7 +25,8 @@ same-length c = search needs
 
 returns : tie.Need-returns
 returns c =
-    refused-put _ _ (c .before .before .before .before .before .before .before .before .before .before .before .before .before .before .put-word .ensures) (c .before .before .before .before .before .before .before .before .before .before .put-number .ensures) (c .before .before .before .before .before .before .put-number2 .ensures) (c .before .before .put-byte .ensures) (search needs)
+    let s = c .before .before .before .before .before .before .before .before .before .before .before .before .before .before .before .before .before .before in
+    refused-put (s .args .number) (s .args .place) (c .before .before .before .before .before .before .before .before .before .before .before .before .before .before .put-word .ensures) (c .before .before .before .before .before .before .before .before .before .before .put-number .ensures) (c .before .before .before .before .before .before .put-number2 .ensures) (c .before .before .put-byte .ensures) (s .pre)
 
 pub put-refused-spec : {M : Type 1} → statement M
 put-refused-spec =
