@@ -1,4 +1,4 @@
-//! Links the proved libraries where the feature `library` asks for them.
+//! Links the proved kernels where the feature `library` asks for them.
 use std::path::Path;
 
 fn main() {
@@ -8,13 +8,11 @@ fn main() {
     }
     let package = std::env::var("CARGO_MANIFEST_DIR").expect("set by cargo");
     let folder = Path::new(&package).join("../target/staticlib");
-    println!("cargo:rustc-link-search=native={}", folder.display());
-    for name in ["kernels", "capi"] {
-        let archive = folder.join(format!("lib{name}.a"));
-        println!("cargo:rerun-if-changed={}", archive.display());
-        if !archive.exists() {
-            panic!("{} is missing: `rt staticlib {name}` makes it, `benchmark/run` does all", archive.display());
-        }
-        println!("cargo:rustc-link-lib=static={name}");
+    let archive = folder.join("libkernels.a");
+    println!("cargo:rerun-if-changed={}", archive.display());
+    if !archive.exists() {
+        panic!("{} is missing: `rt staticlib kernels` makes it, `benchmark/run` does all", archive.display());
     }
+    println!("cargo:rustc-link-search=native={}", folder.display());
+    println!("cargo:rustc-link-lib=static=kernels");
 }
