@@ -44,7 +44,7 @@
  *      9  a number below zero whose range starts at 0                   place: the step
  *     10  a number outside its range otherwise                          place: the step
  *     11  a number that must be whole and is not                        place: the step
- *     12  255 times a blur's widest box is above 65,535                 place: the step
+ *     12  retired: never given, and not used again
  *     13  a region leaves the canvas                                    place: the step
  *     14  a colour exceeds its alpha: in the source, then in a          place: the pixel, from 0
  *         redraw in the workspace
@@ -72,7 +72,6 @@ enum {
     TWILLGOOSE_NEGATIVE = 9,
     TWILLGOOSE_OUT_OF_RANGE = 10,
     TWILLGOOSE_NOT_WHOLE = 11,
-    TWILLGOOSE_WIDE_BOX = 12,
     TWILLGOOSE_OUTSIDE_CANVAS = 13,
     TWILLGOOSE_ABOVE_ALPHA = 14,
     TWILLGOOSE_LINE = 15

@@ -3,7 +3,7 @@
 use crate::fault::Fault;
 use crate::number::judge;
 use crate::step::{Checked, Input, Kind, Region, Step, LONGEST_SIDE, MOST_STEPS};
-use crate::window::{box_size, boxes};
+use crate::window::box_size;
 
 /// "An answer has a number and a place."
 #[derive(Clone, Copy, PartialEq, Eq, Debug)]
@@ -103,15 +103,12 @@ fn numbers(step: &Step, fault: Fault) -> Result<Vec<i64>, u8> {
     }
 }
 
-/// "255 times a blur's widest box is above 65,535."
-fn box_is_wrong(step: &Step, units: &[i64], fault: Fault) -> bool {
-    let size = |units: &i64| {
-        boxes(box_size(*units, fault), fault).iter().map(|(first, last)| last - first + 1).max().unwrap_or(0)
-    };
-    step.kind == Kind::Blur && units.iter().any(|units| 255 * size(units) > 65_535)
+/// Whether a box of the blur holds 61 bytes, the most there are.
+fn is_widest(kind: Kind, units: &[i64]) -> bool {
+    kind == Kind::Blur && units.iter().any(|units| box_size(*units, Fault::None) == 60)
 }
 
-/// "Within a step 7, then each number .. through 8 to 11, then 12, then 13."
+/// Within a step 7, then each number through 8 to 11, then 13.
 fn step(n: usize, step: &Step, call: &Call, fault: Fault) -> Result<Checked, u8> {
     let leaves = leaves(step.region, call.width, call.height, fault.is(Fault::EmptyRegionAnywhere));
     if leaves && fault.is(Fault::ThirteenFirst) {
@@ -124,7 +121,7 @@ fn step(n: usize, step: &Step, call: &Call, fault: Fault) -> Result<Checked, u8>
         return Err(13);
     }
     let units = numbers(step, fault)?;
-    if box_is_wrong(step, &units, fault) {
+    if fault.is(Fault::TwelveGiven) && is_widest(step.kind, &units) {
         return Err(12);
     }
     if leaves {

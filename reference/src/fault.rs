@@ -95,6 +95,7 @@ faults! {
     EmptyRectAnywhere: "an empty rectangle may lie outside",
     EmptyRegionAnywhere: "an empty region may lie outside",
     OwnLayerAllowed: "a step may read its own layer",
+    TwelveGiven: "a blur with a box of 61 bytes is refused 12",
     ThirteenFirst: "13 is checked before 7",
     ThirteenBeforeNumbers: "13 is checked before 8 to 11",
     InputsOfAllStepsFirst: "7 is checked for all steps first",

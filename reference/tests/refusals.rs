@@ -197,12 +197,15 @@ fn pixels_of_the_whole_workspace() {
     assert_eq!(given.answer(), (0, 0));
 }
 
-/// Check 12 is never given: the widest box of the largest deviation is 61.
+/// Why 12 could be retired: it was for boxes whose bytes add up to more than 65,535. Of all units up to 32 the widest
+/// box holds 61 bytes, a sum of 15,555.
 #[test]
 fn widest_box() {
     use reference::window::{box_size, boxes};
     let widest = |units: i64| boxes(box_size(units, Fault::None), Fault::None).iter().map(|(a, b)| b - a + 1).max();
-    assert_eq!(widest(32 * 65_536), Some(61));
+    let bytes = (0..=32 * 65_536).filter_map(widest).max();
+    assert_eq!(bytes, Some(61));
+    assert_eq!(bytes.map(|bytes| 255 * bytes), Some(15_555));
 }
 
 #[test]

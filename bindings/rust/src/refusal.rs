@@ -27,8 +27,6 @@ pub enum Refusal {
     OutOfRange(usize),
     /// 11: a number of this step must be whole and is not.
     NotWhole(usize),
-    /// 12: 255 times the widest box of this blur is above 65,535.
-    WideBox(usize),
     /// 13: the region of this step leaves the canvas.
     OutsideCanvas(usize),
     /// 14: a colour of this pixel exceeds its alpha, in the source or, in a redraw, in the workspace.
@@ -38,7 +36,7 @@ pub enum Refusal {
 }
 
 impl Refusal {
-    /// The refusal's number, 1 to 15.
+    /// The refusal's number, 1 to 15; 12 is retired and never given.
     pub fn number(self) -> u8 {
         match self {
             Refusal::Canvas => 1,
@@ -52,7 +50,6 @@ impl Refusal {
             Refusal::Negative(_) => 9,
             Refusal::OutOfRange(_) => 10,
             Refusal::NotWhole(_) => 11,
-            Refusal::WideBox(_) => 12,
             Refusal::OutsideCanvas(_) => 13,
             Refusal::AboveAlpha(_) => 14,
             Refusal::Line(_) => 15,
@@ -67,7 +64,6 @@ impl Refusal {
             | Refusal::Negative(place)
             | Refusal::OutOfRange(place)
             | Refusal::NotWhole(place)
-            | Refusal::WideBox(place)
             | Refusal::OutsideCanvas(place)
             | Refusal::AboveAlpha(place)
             | Refusal::Line(place) => place,
@@ -90,7 +86,6 @@ impl Display for Refusal {
             Refusal::Negative(step) => write!(out, "step {step}: a number is below zero"),
             Refusal::OutOfRange(step) => write!(out, "step {step}: a number is outside its range"),
             Refusal::NotWhole(step) => write!(out, "step {step}: a number is not whole"),
-            Refusal::WideBox(step) => write!(out, "step {step}: the blur is too wide"),
             Refusal::OutsideCanvas(step) => write!(out, "step {step}: the region leaves the canvas"),
             Refusal::AboveAlpha(pixel) => write!(out, "pixel {pixel}: a colour exceeds its alpha"),
             Refusal::Line(line) => write!(out, "line {line} is not of the form"),
@@ -116,11 +111,10 @@ pub(crate) fn refused(number: u64, place: u64) -> Option<Refusal> {
         9 => Refusal::Negative(place),
         10 => Refusal::OutOfRange(place),
         11 => Refusal::NotWhole(place),
-        12 => Refusal::WideBox(place),
         13 => Refusal::OutsideCanvas(place),
         14 => Refusal::AboveAlpha(place),
         15 => Refusal::Line(place),
-        _ => unreachable!("the library's numbers are 0 to 15"),
+        _ => unreachable!("the library's numbers are 0 to 11 and 13 to 15"),
     };
     Some(refusal)
 }
@@ -131,7 +125,7 @@ mod tests {
 
     #[test]
     fn numbers_and_places_come_back() {
-        for number in 1..=15 {
+        for number in (1..=15).filter(|number| *number != 12) {
             let refusal = refused(number, 9).expect("refused");
             assert_eq!(u64::from(refusal.number()), number);
             assert_eq!(refusal.place(), if number <= 6 { 0 } else { 9 });

@@ -43,5 +43,5 @@ pub record Printed : Type 0 where
   pub minus : printedOf (canvasLine ++ (blurLine ++ rowLine)) ≡ refusedText 9 0
 
 pub printed : Printed
-unfolding nearest judgedRatio composited flooded firstInvalid R.inside patch L.replaced L.initial L.rendered work S.resolved S.effectOf B.read B.concat accepted? C.firstOf C.all C.inputs? C.numbersAnswer C.widest C.stepAnswer C.sizesAnswer C.answerOf T.split T.join T.indexOf F.same F.digitOf F.accumulated F.digitsOf F.naturalOf F.hexOf F.fractionOf F.magnitudeOf F.numberOf M.all M.concat M.padded M.stored K.named K.firstNamed K.kindOf P.inputOf P.wiresOf P.operandsOf P.assembled P.stepAs P.stepOf D.sheetLine D.pixelsOf D.rowOf D.lineOf D.canvasOf linesOf textLines readingOf digit shortest decimal hexByte hexPixel line listed rowFields rowLines okText refusedText answerText sheetText readingText printedOf
+unfolding nearest judgedRatio composited flooded firstInvalid R.inside patch L.replaced L.initial L.rendered work S.resolved S.effectOf B.read B.concat accepted? C.firstOf C.all C.inputs? C.numbersAnswer C.stepAnswer C.sizesAnswer C.answerOf T.split T.join T.indexOf F.same F.digitOf F.accumulated F.digitsOf F.naturalOf F.hexOf F.fractionOf F.magnitudeOf F.numberOf M.all M.concat M.padded M.stored K.named K.firstNamed K.kindOf P.inputOf P.wiresOf P.operandsOf P.assembled P.stepAs P.stepOf D.sheetLine D.pixelsOf D.rowOf D.lineOf D.canvasOf linesOf textLines readingOf digit shortest decimal hexByte hexPixel line listed rowFields rowLines okText refusedText answerText sheetText readingText printedOf
 printed = record { paper = refl; nothing = refl; stepless = refl; minus = refl }
