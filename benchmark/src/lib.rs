@@ -6,4 +6,5 @@ pub mod kernels;
 pub mod others;
 pub mod picture;
 pub mod plain;
+pub mod rows;
 pub mod turns;

@@ -2,6 +2,7 @@
 use super::sheets::{all, Sheet};
 use super::{same, Desk, Region, Renderer};
 use crate::picture::{picture, ONE};
+use crate::rows::{Best, Named};
 use crate::turns::{take_turns, take_turns_for};
 use std::cell::RefCell;
 use std::hint::black_box;
@@ -16,13 +17,11 @@ pub struct Parts {
     pub clear: fn(&mut [u8]),
 }
 
-/// Best times in milliseconds; of drawing the median and its error.
+/// Best times in milliseconds.
 struct Row {
-    count: u64,
     ours: f64,
     scans: f64,
     clearing: f64,
-    drawing: (f64, f64),
     plain: f64,
     pass: f64,
 }
@@ -48,18 +47,24 @@ pub fn old_layers<'a>(side: usize, sheet: &'a Sheet, source: &[u8], edited: &'a 
     desk
 }
 
-fn measure(old: Desk, ours: &dyn Renderer, plain: &dyn Renderer, parts: &Parts) -> Result<Row, String> {
-    let named = edit(old.side);
+fn redraw(desk: &RefCell<Desk>, by: &dyn Renderer, named: Region) {
+    assert!(black_box(&mut *desk.borrow_mut()).redraw(by, named).number == 0);
+}
+
+/// The median and its error.
+fn drawing(desk: &RefCell<Desk>, ours: &dyn Renderer) -> (f64, f64) {
+    let named = edit(desk.borrow().side);
     let empty = Region { width: 0, height: 0, ..named };
-    let count = same::redrawn(&old, named, ours, plain)?;
-    let (source, side) = (old.source, old.side);
-    let mut copy = source.to_vec();
-    let desk = RefCell::new(old);
-    let redraw = |by: &dyn Renderer, named| assert!(black_box(&mut *desk.borrow_mut()).redraw(by, named).number == 0);
-    let [whole, nothing] = take_turns_for(LONGEST, [&mut || redraw(ours, named), &mut || redraw(ours, empty)]);
+    let [whole, nothing] = take_turns_for(LONGEST, [&mut || redraw(desk, ours, named), &mut || redraw(desk, ours, empty)]);
+    whole.longer_than(&nothing)
+}
+
+fn measure(desk: &RefCell<Desk>, ours: &dyn Renderer, plain: &dyn Renderer, parts: &Parts) -> Row {
+    let (source, side) = (desk.borrow().source, desk.borrow().side);
+    let (named, mut copy) = (edit(side), source.to_vec());
     let times = take_turns([
-        &mut || redraw(ours, named),
-        &mut || redraw(plain, named),
+        &mut || redraw(desk, ours, named),
+        &mut || redraw(desk, plain, named),
         &mut || {
             let desk = &*desk.borrow();
             let layers = desk.workspace.chunks_exact(source.len());
@@ -69,8 +74,22 @@ fn measure(old: Desk, ours: &dyn Renderer, plain: &dyn Renderer, parts: &Parts) 
         &mut || black_box(&mut copy).copy_from_slice(black_box(source)),
     ]);
     let [ours, plain, scans, clearing, pass] = times.map(|times| times.best());
-    let drawing = whole.longer_than(&nothing);
-    Ok(Row { count, ours, scans, clearing, drawing, plain, pass })
+    Row { ours, scans, clearing, plain, pass }
+}
+
+/// Each redraw, to be measured by itself.
+pub fn rows<'a>(side: usize, source: &'a [u8], ours: &'a dyn Renderer, plain: &'a dyn Renderer, parts: &'a Parts) -> Vec<Named<'a>> {
+    let row = |sheet: Sheet| {
+        let name = sheet.name.clone();
+        Named::new("redraw", &name, move || {
+            let edited = edited(side, source);
+            let old = old_layers(side, &sheet, source, &edited, plain);
+            same::redrawn(&old, edit(side), ours, plain)?;
+            let Row { ours, plain, pass, .. } = measure(&RefCell::new(old), ours, plain, parts);
+            Ok(Best { ours, plain: Some(plain), pass })
+        })
+    };
+    all(side).into_iter().filter(|sheet| sheet.redrawn).map(row).collect()
 }
 
 pub fn print(side: usize, ours: &dyn Renderer, plain: &dyn Renderer, parts: &Parts) -> Result<(), String> {
@@ -80,8 +99,10 @@ pub fn print(side: usize, ours: &dyn Renderer, plain: &dyn Renderer, parts: &Par
     println!("|---|---|---|---|---|---|---|---|---|---|");
     for sheet in all(side).iter().filter(|sheet| sheet.redrawn) {
         let old = old_layers(side, sheet, &source, &edited, plain);
-        let row = measure(old, ours, plain, parts).map_err(|error| format!("{}: {error}", sheet.name))?;
-        let Row { count, ours, scans, clearing, drawing: (drawing, error), plain, pass } = row;
+        let count = same::redrawn(&old, edit(side), ours, plain).map_err(|error| format!("{}: {error}", sheet.name))?;
+        let desk = RefCell::new(old);
+        let (drawing, error) = drawing(&desk, ours);
+        let Row { ours, scans, clearing, plain, pass } = measure(&desk, ours, plain, parts);
         let (rest, ratio, passes) = (ours - scans - clearing - drawing, ours / plain, ours / pass);
         let split = format!("{scans:.2} | {clearing:.2} | {drawing:.3} ± {error:.3} | {rest:.2}");
         println!("| {} | {count} | {ours:.2} | {split} | {plain:.2} | {ratio:.2} | {passes:.1} |", sheet.name);

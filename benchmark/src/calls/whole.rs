@@ -2,6 +2,7 @@
 use super::sheets::{all, Sheet};
 use super::{same, Desk, Renderer};
 use crate::picture::{picture, ONE};
+use crate::rows::{Best, Named};
 use crate::turns::take_turns;
 use std::cell::RefCell;
 use std::hint::black_box;
@@ -23,6 +24,18 @@ fn measure(side: usize, sheet: &Sheet, source: &[u8], ours: &dyn Renderer, plain
         &mut || black_box(&mut copy).copy_from_slice(black_box(source)),
     ]);
     Ok(Row { ours: ours.best(), plain: plain.best(), pass: pass.best() })
+}
+
+/// Each full render, to be measured by itself.
+pub fn rows<'a>(side: usize, source: &'a [u8], ours: &'a dyn Renderer, plain: &'a dyn Renderer) -> Vec<Named<'a>> {
+    let row = |sheet: Sheet| {
+        let name = sheet.name.clone();
+        Named::new("render", &name, move || {
+            let Row { ours, plain, pass } = measure(side, &sheet, source, ours, plain)?;
+            Ok(Best { ours, plain: Some(plain), pass })
+        })
+    };
+    all(side).into_iter().map(row).collect()
 }
 
 pub fn print(side: usize, ours: &dyn Renderer, plain: &dyn Renderer) -> Result<(), String> {

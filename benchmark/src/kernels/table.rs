@@ -1,9 +1,11 @@
 //! The table of kernels: each as a multiple of one memory pass, memcpy of the same picture.
 use super::canvas::Canvas;
 use super::steps::{all, Step};
+use crate::rows::{Best, Named};
 use crate::turns::take_turns;
 use std::cell::RefCell;
 use std::hint::black_box;
+use std::rc::Rc;
 
 /// The best time of a memory pass and of the step, which take turns.
 fn measure(canvas: &RefCell<Canvas>, step: &Step) -> (f64, f64) {
@@ -14,6 +16,19 @@ fn measure(canvas: &RefCell<Canvas>, step: &Step) -> (f64, f64) {
     let mut work = || (step.run)(black_box(&mut canvas.borrow_mut()));
     let [pass, work] = take_turns([&mut pass, &mut work]);
     (pass.best(), work.best())
+}
+
+/// Each kernel over the large picture, to be measured by itself.
+pub fn rows() -> Vec<Named<'static>> {
+    let canvas = Rc::new(RefCell::new(Canvas::new(1024)));
+    let row = |step: Step| {
+        let (name, canvas) = (step.name.clone(), canvas.clone());
+        Named::new("kernel", &name, move || {
+            let (pass, ours) = measure(&canvas, &step);
+            Ok(Best { ours, plain: None, pass })
+        })
+    };
+    all().into_iter().map(row).collect()
 }
 
 pub fn print() {
