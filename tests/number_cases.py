@@ -1,4 +1,4 @@
-"""Numbers of a step at every edge, with the answers that document 01 gives them.
+"""Numbers of a step at every edge, with the answers that document 01 gives them, halves rounded as document 02 has it (K8).
 
     python3 number_cases.py FOLDER
 
@@ -7,7 +7,7 @@ a space, 16 lower-case hex digits, a line feed. For d the digits are a decimal's
 complement; for s they are a single's bits. The expected line repeats the input's 20 characters and adds the units
 above and below zero, or the word refused and the refusal's number.
 
-Everything is worked in exact fractions, from document 01 alone.
+Everything is worked in exact fractions, from the two documents alone.
 """
 
 import random
@@ -40,9 +40,12 @@ def single(bits):
 
 
 def rounded(value):
-    """To the nearest whole number, halves away from zero."""
-    size = (2 * abs(value) + 1) // 2
-    return size if value >= 0 else -size
+    """To the nearest whole number; where two are as near, to the even one."""
+    below = value.numerator // value.denominator
+    rest = value - below
+    if rest == Fraction(1, 2):
+        return below if below % 2 == 0 else below + 1
+    return below if rest < Fraction(1, 2) else below + 1
 
 
 def answer(place, value):
@@ -107,8 +110,19 @@ def edge_singles(limit):
     # Quarters, halves and wholes of a unit, from the first ones to the last that a single can tell apart.
     for quarters in (1, 2, 3, 4, 5, 6, 7, 10, 14, 4 * UNIT - 2, 4 * UNIT + 2):
         yield from around(bits_of(Fraction(quarters, 4 * UNIT)))
-    for units in (4095, 4096, 65535, 65536, 2097151, 4194303, 8388606, 8388607):
+    for units in (4095, 4096, 65534, 65535, 65536, 2097150, 2097151, 2097152, 4194302, 4194303, 8388606, 8388607):
         yield from around(bits_of(Fraction(2 * units + 1, 2 * UNIT)))
+
+
+def ties(chance, limit):
+    """Halfway between two units, an even and an odd one below, on both sides of zero. Above 128 no single lies there."""
+    pairs = min(limit, 128) * UNIT // 2
+    for _ in range(12):
+        even = 2 * chance.randrange(pairs)
+        for below in (even, even + 1):
+            bits = bits_of(Fraction(2 * below + 1, 2 * UNIT))
+            yield bits
+            yield bits | SIGN
 
 
 def every_exponent():
@@ -132,7 +146,7 @@ def cases():
     for place, (_, limit, _) in enumerate(RANGES):
         for z in edge_decimals(limit):
             yield place, "d", z
-        for bits in edge_singles(limit):
+        for bits in (*edge_singles(limit), *ties(chance, limit)):
             yield place, "s", bits
         for kind, number in random_numbers(chance, limit):
             yield place, kind, number
@@ -151,7 +165,7 @@ def lines():
 
 
 def checked_by_hand(written):
-    """Document 01's own cases."""
+    """Document 01's own cases, and halves: 0.5 to 3.5 units and below zero, and the last halves before 1 and before 32."""
     assert written["1 d ffffffffffffffff"].endswith(" refused 9")
     assert written["1 s 0000000080000000"].endswith(" 0 0")
     assert written["1 d 000000000004e200"].endswith(" 2097152 0")
@@ -159,6 +173,16 @@ def checked_by_hand(written):
     assert written["1 s 0000000042000001"].endswith(" refused 10")
     assert written["1 s 000000007fc00000"].endswith(" refused 8")
     assert written["3 d 0000000000001388"].endswith(" refused 11")
+    for bits, size in (("37000000", 0), ("37c00000", 2), ("38200000", 2), ("38600000", 4)):
+        below = f"{int(bits, 16) | SIGN:08x}"
+        assert written[f"4 s 00000000{bits}"].endswith(f" {size} 0")
+        assert written[f"4 s 00000000{below}"].endswith(f" 0 {size}")
+        assert written[f"1 s 00000000{below}"].endswith(" refused 9")
+        assert written[f"2 s 00000000{bits}"].endswith(" refused 11")
+    assert written["0 s 000000003f7ffe80"].endswith(" 65534 0")
+    assert written["0 s 000000003f7fff80"].endswith(" 65536 0")
+    assert written["1 s 0000000041fffff4"].endswith(" 2097150 0")
+    assert written["1 s 0000000041fffffc"].endswith(" 2097152 0")
 
 
 def main():

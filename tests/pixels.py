@@ -73,16 +73,15 @@ def matrix(m, p):
     return tuple(premultiply(c, new[3]) for c in new[:3]) + (new[3],)
 
 
-def units(x):
-    """The nearest whole number of units, halves away from zero."""
-    sign = -1 if x < 0 else 1
-    return sign * int(abs(x) * ONE + Fraction(1, 2))
+def coefficient(x):
+    """One of saturate's own: the nearest whole number of units, halves away from zero. None is below zero."""
+    return int(x * ONE + Fraction(1, 2))
 
 
 def saturate_matrix(s):
     s = Fraction(s, ONE)
     weights = [Fraction(213, 1000), Fraction(715, 1000), Fraction(72, 1000)]
-    rows = [[units(w + (1 - w) * s if i == j else w - w * s) for j, w in enumerate(weights)] + [0, 0] for i in range(3)]
+    rows = [[coefficient(w + (1 - w) * s if i == j else w - w * s) for j, w in enumerate(weights)] + [0, 0] for i in range(3)]
     return rows[0] + rows[1] + rows[2] + [0, 0, 0, ONE, 0]
 
 
@@ -90,13 +89,16 @@ LUMINANCE = [0] * 15 + [13926, 46884, 4725, 0, 0]
 
 
 def by_hand():
-    """Document 01's worked examples."""
+    """Document 01's worked examples, and halves in saturate's coefficients."""
     assert premultiply(255, 128) == 128
     assert unpremultiply(1, 3) == 85 and premultiply(85, 3) == 1
     assert composite(0, (0x80, 0, 0, 0x80), (0, 0, 0xff, 0xff)) == (0x80, 0, 0x7f, 0xff)
     assert composite(4, (1, 2, 3, 255), (4, 5, 6, 255)) == (0, 0, 0, 0)
     assert arithmetic([0, 32768, 32768, 0], (255,) * 4, (0,) * 4)[3] == 128
     assert saturate_matrix(0)[:3] == [13959, 46858, 4719]
+    # 65,142.5, 106.5, 357.5 and 65,393.5 units
+    assert saturate_matrix(65036)[:15] == [65143, 358, 36, 0, 0, 107, 65394, 36, 0, 0, 107, 358, 65072, 0, 0]
+    assert matrix(saturate_matrix(65036), (255, 0, 153, 255)) == (254, 1, 152, 255)
     assert saturate_matrix(ONE) == [ONE, 0, 0, 0, 0, 0, ONE, 0, 0, 0, 0, 0, ONE, 0, 0, 0, 0, 0, ONE, 0]
     assert matrix(LUMINANCE, (255,) * 4) == (0, 0, 0, 255)
 
@@ -192,7 +194,8 @@ class Cases:
                         break
 
     def saturations(self):
-        for s in [0, 1, 16384, 32768, 65535, 65536, self.random.randint(0, ONE)]:
+        # At 36 and 65,036 units coefficients lie halfway between two units.
+        for s in [0, 1, 36, 16384, 32768, 65036, 65535, 65536, self.random.randint(0, ONE)]:
             m = saturate_matrix(s)
             for p in EDGES[:6] + list(self.sensitive(m, [0, 1, 2, 5, 6, 7, 10, 11, 12])) + [self.pixel()]:
                 self.add('s', matrix(m, p), p, numbers=[s])

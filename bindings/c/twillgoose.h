@@ -27,7 +27,8 @@
  *     merge     1 to 4 inputs           bottom first
  *
  * A number is a decimal with at most five digits before and four after the point, or x and the eight hexadecimal digits
- * of a single.
+ * of a single. It is checked as it stands, then rounded to the nearest 1/65,536. A single halfway between two goes to the
+ * even one; no decimal lies there.
  *
  * Answers, in the order of checking. The place is 0 unless said:
  *

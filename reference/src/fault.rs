@@ -2,7 +2,7 @@
 
 macro_rules! faults {
     ($($name:ident: $text:literal,)*) => {
-        /// Which rule is wrong; `None` is document 01 as it stands.
+        /// Which rule is wrong; `None` is the rules as they stand.
         #[derive(Clone, Copy, PartialEq, Eq, Debug)]
         pub enum Fault { None, $(#[doc = $text] $name,)* }
 
@@ -16,7 +16,7 @@ faults! {
     SignAfterRounding: "the sign is judged after rounding",
     RangeAfterRounding: "the range is judged after rounding",
     WholeAfterRounding: "wholeness is judged after rounding",
-    TiesToEven: "halves go to the even unit",
+    TiesAway: "halves go away from zero",
     TiesUp: "halves go up, also below zero",
     UnitsRoundedDown: "units are rounded towards zero",
     InfinityIsNumber: "an infinite single is judged by its range",
@@ -50,6 +50,7 @@ faults! {
     MatrixWraps: "the matrix wraps instead of limiting",
     OldAlphaKept: "the matrix premultiplies by the old alpha",
     SaturateDown: "saturate's coefficients are rounded down",
+    SaturateToEven: "saturate's coefficients are rounded as numbers are",
     OtherLuminance: "luminance takes saturate's coefficients",
     // Work of the steps
     AlphaKeepsColour: "the source's alpha keeps its colours",

@@ -49,17 +49,22 @@ impl Fraction {
         self.over.divided(self.under).1 == Wide::ZERO
     }
 
-    /// "The nearest 1/65,536, halves away from zero": the size is (2·65,536·over + under) ÷ (2·under).
+    /// "The nearest 1/65,536", where two are as near the even one (document 02, K8). The sign plays no part in it.
     fn rounded(self, fault: Fault) -> Fraction {
-        let twice = self.over.times(2 * UNIT as u64);
-        let (mut size, rest) = twice.plus(self.under).divided(self.under.plus(self.under));
-        let odd = size.divided(Wide::new(2)).1 == Wide::new(1);
-        if rest == Wide::ZERO && (fault.is(Fault::TiesToEven) && odd || fault.is(Fault::TiesUp) && self.minus) {
-            size = size.minus(Wide::new(1));
-        }
-        if fault.is(Fault::UnitsRoundedDown) {
-            size = twice.divided(self.under.plus(self.under)).0;
-        }
+        let (below, rest) = self.over.times(UNIT as u64).divided(self.under);
+        let odd = below.divided(Wide::new(2)).1 == Wide::new(1);
+        let halfway = match fault {
+            Fault::TiesAway => true,
+            Fault::TiesUp => !self.minus,
+            _ => odd,
+        };
+        let up = match rest.plus(rest).cmp(&self.under) {
+            Ordering::Less => false,
+            Ordering::Equal => halfway,
+            Ordering::Greater => true,
+        };
+        let next = up && !fault.is(Fault::UnitsRoundedDown);
+        let size = if next { below.plus(Wide::new(1)) } else { below };
         Fraction { minus: self.minus, over: size, under: Wide::new(UNIT as u128) }
     }
 }

@@ -144,13 +144,17 @@ const SATURATE: [[(i128, i128); 3]; 3] =
     [[(213, 787), (715, -715), (72, -72)], [(213, -213), (715, 285), (72, -72)], [(213, -213), (715, -715), (72, 928)]];
 
 /// "Each coefficient is worked exactly from s in units and rounded once to units, halves away from zero. Alpha is kept."
+/// This rounding is saturate's own: numbers are rounded in another way.
 pub fn saturate(s: i64, fault: Fault) -> Matrix {
     let mut m = [0; 20];
     for row in 0..3 {
         for column in 0..3 {
             let (alone, with_s) = SATURATE[row][column];
             let exact = alone * i128::from(UNIT) + with_s * i128::from(s);
-            let size = down(2 * exact.abs() + fault.choose(Fault::SaturateDown, 1000, 0), 2000);
+            let mut size = down(2 * exact.abs() + fault.choose(Fault::SaturateDown, 1000, 0), 2000);
+            if fault.is(Fault::SaturateToEven) && exact.abs() % 1000 == 500 {
+                size -= size % 2;
+            }
             m[5 * row + column] = (exact.signum() * size) as i64;
         }
     }

@@ -4,6 +4,7 @@ use reference::fault::Fault;
 use reference::number::{judge, Number, Range};
 use reference::random::Random;
 
+const FRACTION: Range = Range { low: 0, high: 1, whole: false };
 const DEVIATION: Range = Range { low: 0, high: 32, whole: false };
 const OFFSET: Range = Range { low: -1024, high: 1024, whole: true };
 const COEFFICIENT: Range = Range { low: -256, high: 256, whole: false };
@@ -48,15 +49,34 @@ fn largest_singles() {
 }
 
 #[test]
-fn halves_go_away_from_zero() {
-    for (halves, expected) in [(1, 1), (3, 2), (-1, -1), (-3, -2), (5, 3), (2, 1)] {
-        assert_eq!(units(single(halves as f32 / 131_072.0), COEFFICIENT), Ok(expected));
+fn halves_go_to_the_even_unit() {
+    for (halves, expected) in [(1, 0), (3, 2), (5, 2), (7, 4), (2, 1), (131_069, 65_534), (131_071, 65_536)] {
+        let value = halves as f32 / 131_072.0;
+        assert_eq!(units(single(value), COEFFICIENT), Ok(expected), "{halves}");
+        assert_eq!(units(single(-value), COEFFICIENT), Ok(-expected), "-{halves}");
+        assert_eq!(units(single(value), FRACTION), Ok(expected), "{halves}");
+        assert_eq!(units(single(32.0 - value), DEVIATION), Ok(2_097_152 - expected), "32 - {halves}");
     }
-    let half = 0.5_f32 / 65_536.0;
-    assert_eq!(units(Number::Single(half.to_bits() - 1), COEFFICIENT), Ok(0));
-    assert_eq!(units(Number::Single(half.to_bits() + 1), COEFFICIENT), Ok(1));
+}
+
+#[test]
+fn beside_a_half_the_nearer_one() {
+    for (halves, below, above) in [(1.0_f32, 0, 1), (3.0, 1, 2)] {
+        let bits = (halves / 131_072.0).to_bits();
+        assert_eq!(units(Number::Single(bits - 1), COEFFICIENT), Ok(below));
+        assert_eq!(units(Number::Single(bits + 1), COEFFICIENT), Ok(above));
+    }
     assert_eq!(units(Number::Decimal(1), COEFFICIENT), Ok(7));
     assert_eq!(units(Number::Decimal(-1), COEFFICIENT), Ok(-7));
+}
+
+/// A half that rounding would take to zero, to a whole number or to a range's end is refused before it is rounded.
+#[test]
+fn halves_are_judged_before_they_are_rounded() {
+    let half = 1.0 / 131_072.0;
+    assert_eq!(units(single(-half), FRACTION), Err(9));
+    assert_eq!(units(single(32.0 + half), DEVIATION), Err(10));
+    assert_eq!(units(single(3.0 + half), RADIUS), Err(11));
 }
 
 #[test]
@@ -79,9 +99,20 @@ fn singles_agree_with_doubles() {
         } else if value.abs() > 256.0 {
             Err(10)
         } else {
-            Ok((value * 65_536.0).round() as i64)
+            Ok((value * 65_536.0).round_ties_even() as i64)
         };
         assert_eq!(units(Number::Single(bits), COEFFICIENT), rule, "{bits:08x}");
+    }
+}
+
+/// The two units about a tie: the answer is the one that two divides.
+#[test]
+fn ties_of_every_size() {
+    let mut random = Random::new(5);
+    for _ in 0..5_000 {
+        let below = random.within(-8_388_608, 8_388_607);
+        let even = if below % 2 == 0 { below } else { below + 1 };
+        assert_eq!(units(single((2 * below + 1) as f32 / 131_072.0), COEFFICIENT), Ok(even), "{below}");
     }
 }
 

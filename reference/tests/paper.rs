@@ -63,6 +63,16 @@ fn p7_saturate() {
     assert_eq!((one[0], one[1], one[5], one[6], one[12]), (65_536, 0, 0, 65_536, 65_536));
 }
 
+/// Red's own coefficients lie at 65,142.5 and 106.5 units, green's at 357.5 and 65,393.5: all go up, to odd ones too.
+#[test]
+fn saturate_rounds_halves_up() {
+    let m = saturate(65_036, RIGHT);
+    assert_eq!(m[0..3], [65_143, 358, 36]);
+    assert_eq!(m[5..8], [107, 65_394, 36]);
+    assert_eq!(m[10..13], [107, 358, 65_072]);
+    assert_eq!(last_layer(1, 1, "saturate 0 0 1 1 src x3f7e0c00\n", &pixels("ff0099ff")), pixels("fe0198ff"));
+}
+
 #[test]
 fn p8_luminance() {
     assert_eq!(matrix(&luminance(RIGHT), [255; 4], RIGHT), [0, 0, 0, 255]);

@@ -52,7 +52,7 @@ fn work(kind: &str, numbers: &[&str]) -> Work {
     }
 }
 
-/// over ÷ under to the nearest whole, halves away from zero.
+/// over ÷ under to the nearest whole, halves away from zero: saturate's coefficients. A decimal is never halfway between two units.
 fn nearest(over: i64, under: i64) -> i64 {
     over.signum() * ((2 * over.abs() + under) / (2 * under))
 }
@@ -60,7 +60,7 @@ fn nearest(over: i64, under: i64) -> i64 {
 fn units(field: &str) -> i64 {
     if let Some(bits) = field.strip_prefix('x') {
         let single = f32::from_bits(u32::from_str_radix(bits, 16).expect("the bits of a single"));
-        return (f64::from(single) * 65_536.0).round() as i64;
+        return (f64::from(single) * 65_536.0).round_ties_even() as i64;
     }
     let (sign, size) = field.strip_prefix('-').map_or((1, field), |size| (-1, size));
     let (ones, parts) = size.split_once('.').unwrap_or((size, "0"));

@@ -35,7 +35,8 @@
 //! | `merge` | 1 to 4 inputs, bottom first | |
 //!
 //! A number is a decimal with at most five digits before and four after the point, or `x` and the eight hexadecimal
-//! digits of a single. A [`Refusal`] says what is wrong with a call, and changes no byte that was lent.
+//! digits of a single. It is checked as it stands, then rounded to the nearest 1/65,536. A single halfway between two goes
+//! to the even one; no decimal lies there. A [`Refusal`] says what is wrong with a call, and changes no byte that was lent.
 
 #![warn(missing_docs)]
 

@@ -1,4 +1,5 @@
-// Document 01's "Checked by hand", those that numbers and pixels can answer: P1 to P5, P7, P8, P12, and the 'Run' cases of numbers.
+// Document 01's "Checked by hand", those that numbers and pixels can answer: P1 to P5, P7, P8, P12, and the 'Run' cases of numbers. Then what a
+// half between two units becomes: the even one of a number, the larger one of saturate's own coefficients.
 ghost use Rattle.pixel.specs.Alpha.{Valid};
 ghost use Rattle.pixel.specs.Coefficient.{Allowed};
 use super::numbers;
@@ -110,10 +111,31 @@ fn print_numbers() {
     print_number(b"Run 0.5", Range::Offset, Number::Decimal(5000));
 }
 
+// 2.5 and −3.5 units; for s of 65,036 units 0.213 · (1 − s) is 106.5.
+fn print_halves() {
+    print_number(
+        b"Tie 2.5",
+        Range::Coefficient,
+        Number::Single(number::single(0x38200000)),
+    );
+    print_number(
+        b"Tie -3.5",
+        Range::Coefficient,
+        Number::Single(number::single(0xb8600000)),
+    );
+    let m = pixel::color_matrix::saturation_matrix(65036);
+    field::word(b"Saturate 65036");
+    field::number(m.g.r.above);
+    field::number(m.g.g.above);
+    field::number(m.g.b.above);
+    field::end();
+}
+
 pub fn print_all() {
     print_alphas();
     print_composites();
     print_arithmetic();
     print_matrices();
     print_numbers();
+    print_halves();
 }

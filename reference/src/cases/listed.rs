@@ -1,4 +1,5 @@
-//! Calls whose lines are worked out by hand: document 01's examples and each refusal. The lines: tests/calls.expected.
+//! Calls whose lines are worked out by hand: document 01's examples, halves between two units, and each refusal. The lines:
+//! tests/calls.expected.
 
 use super::calls::Entry;
 use super::Case;
@@ -71,6 +72,21 @@ fn pixels() -> Vec<Entry> {
         pixel("P8", 0xffffffff, "lumalpha 0 0 1 1 src\n", &[9]),
         // 800000ff, 408000ff, 204080ff.
         pixel("merge four", 0x000000ff, MERGE, &[0x80000080, 0x00800080, 0x00008080, 9]),
+    ]
+}
+
+/// Halves between two units, each where one unit more or less shows. A number's goes to the even unit: an alpha of 0 at
+/// 128 units and 1 at 129, 1 at 385 and 2 at 386; taken from 255, 255 at 128 and 254 at 129, 254 at 385 and 253 at 386.
+/// Saturate's own goes up: G from R is 107, and (107 · 255 + 36 · 153 + 32,768) ÷ 65,536 is 1.
+fn halves() -> Vec<Entry> {
+    let flood = |name, opacity| pixel(name, 0, &format!("flood 0 0 1 1 255 255 255 {opacity}\n"), &[9]);
+    let lessened = |name, k4| pixel(name, 0xff, &format!("arith 0 0 1 1 src src 0 1 0 {k4}\n"), &[9]);
+    vec![
+        flood("tie 128.5", "x3b008000"),
+        flood("tie 385.5", "x3bc0c000"),
+        lessened("tie -128.5", "xbb008000"),
+        lessened("tie -385.5", "xbbc0c000"),
+        pixel("half 106.5", 0xff0099ff, "saturate 0 0 1 1 src x3f7e0c00\n", &[9]),
     ]
 }
 
@@ -188,11 +204,12 @@ fn pixels_and_order() -> Vec<Entry> {
         second("11 before 8", "offset 2 2 1 1 0 0.5 x7fc00000"),
         second("11 before 13", "offset 2 2 1 1 0 0.5 0"),
         second("13 before 14", "lumalpha 1 0 2 2 src").with(|call| above(&mut call.case.source, 0)),
+        plain("5 before 6", |call| call.case.scratch.truncate(31)).named([1, 0, 2, 1]),
         second("6 before 7", "over 0 0 2 2 src 1").named([0, 0, 3, 0]),
         second("15 line", "merge 0 0 2 2"),
     ]
 }
 
 pub fn listed() -> Vec<Entry> {
-    [pixels(), neighbourhoods(), sizes(), steps(), pixels_and_order()].into_iter().flatten().collect()
+    [pixels(), halves(), neighbourhoods(), sizes(), steps(), pixels_and_order()].into_iter().flatten().collect()
 }

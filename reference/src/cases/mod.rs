@@ -102,11 +102,13 @@ pub fn step(random: &mut Random, n: usize, width: usize, height: usize, wild: bo
 }
 
 /// Makes the numbers of a matrix or an arithmetic step such that they show: most of them 0, or two that lie at an edge.
+/// A saturate's comes to lie where its coefficients are halves.
 fn plain_numbers(random: &mut Random, kind: Kind, numbers: &mut [Number]) {
     let fine = random.once_in(2);
     let row = match kind {
         Kind::Matrix => 5,
         Kind::Arithmetic => 4,
+        Kind::Saturate if fine => return numbers.fill(numbers::saturate_half(random)),
         _ => return,
     };
     for row in numbers.chunks_exact_mut(row) {
@@ -128,11 +130,18 @@ pub fn sheet(random: &mut Random, count: usize, width: usize, height: usize, wil
     (0..count).map(|n| step(random, n, width, height, wild)).collect()
 }
 
+/// Its new green is 1 with a coefficient of 107 units and 0 with 106: it shows how saturate rounds at 65,036 units.
+const FINE: [u8; 4] = [255, 0, 153, 255];
+
 /// A valid picture: "no colour in it exceeds its alpha".
 pub fn picture(random: &mut Random, pixels: usize) -> Vec<u8> {
     let style = random.below(4);
     let mut bytes = Vec::with_capacity(4 * pixels);
     for _ in 0..pixels {
+        if style == 0 && random.once_in(16) {
+            bytes.extend(FINE);
+            continue;
+        }
         let alpha = match style {
             0 => 255,
             1 => random.byte(),

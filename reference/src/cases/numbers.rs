@@ -42,6 +42,7 @@ pub fn allowed(random: &mut Random, range: Range) -> Number {
 fn edge(random: &mut Random, range: Range) -> Number {
     if random.once_in(2) {
         match range.high {
+            1 => return opacity_edge(random),
             32 => return box_edge(random),
             256 => return coefficient_edge(random),
             _ => {}
@@ -62,6 +63,12 @@ fn edge(random: &mut Random, range: Range) -> Number {
         _ if range.whole => whole(random, range.high - 1),
         _ => random.pick(&inside),
     }
+}
+
+/// Opacities at which a flood's alpha passes to the next byte, and the ties beside them.
+fn opacity_edge(random: &mut Random) -> Number {
+    let units = (UNIT * random.within(0, 254) + UNIT / 2) / 255;
+    single(2 * units + random.within(-1, 2), 2 * UNIT)
 }
 
 /// Deviations at which a blur's box grows: the last units before, the first after, and the tie between them.
@@ -92,6 +99,12 @@ pub fn fine_pair(random: &mut Random) -> [Number; 2] {
     [single(2 * below + 1, 2 * UNIT), single(sum - below + random.within(-1, 1), UNIT)]
 }
 
+/// An s at which saturate's own coefficients lie halfway between two units: 0.213 · (1 − s) is 106.5 units at 65,036.
+pub fn saturate_half(random: &mut Random) -> Number {
+    let below = random.within(0, 65);
+    single(65_036 - 1000 * random.pick(&[0, 0, below]), UNIT)
+}
+
 /// A number that may be refused.
 pub fn wild(random: &mut Random, range: Range) -> Number {
     let high = (range.high as f32).to_bits();
@@ -115,6 +128,7 @@ pub fn wild(random: &mut Random, range: Range) -> Number {
             0x807f_ffff,
             0x8080_0000,
             0xb680_0000,
+            0xb700_0000,
             0x7f7f_ffff,
             0xff7f_ffff,
         ])),

@@ -156,7 +156,8 @@ pub fn by_number(answers: &[Vec<u8>]) -> String {
     let mut said = String::new();
     for number in 0..16 {
         let begin = if number == 0 { "ok\n".to_string() } else { format!("refused\t{number}\t") };
-        said += &format!("{number}\t{}\n", answers.iter().filter(|answer| answer.starts_with(begin.as_bytes())).count());
+        said +=
+            &format!("{number}\t{}\n", answers.iter().filter(|answer| answer.starts_with(begin.as_bytes())).count());
     }
     said + &format!("{} texts\n", answers.len())
 }
