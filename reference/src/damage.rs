@@ -23,13 +23,14 @@ fn blur_spread(units: i64, fault: Fault) -> i64 {
     }
 }
 
-/// "A radius r of at least 1 grows it by r − 1 left or up and r right or down."
+/// "Grows by r on each side."
 fn radius_spread(radius: i64, fault: Fault) -> (i64, i64) {
     match (radius, fault) {
         (0, _) => (0, 0),
-        (r, Fault::RadiusSpreadBoth) => (r, r),
-        (r, Fault::RadiusSpreadTurned) => (r, r - 1),
-        (r, _) => (r - 1, r),
+        (r, Fault::RadiusSpreadLessLeft) => (r - 1, r),
+        (r, Fault::RadiusSpreadLessRight) => (r, r - 1),
+        (r, Fault::RadiusSpreadMore) => (r + 1, r + 1),
+        (r, _) => (r, r),
     }
 }
 

@@ -109,13 +109,13 @@ pub fn blur(input: &Picture, sx: i64, sy: i64, region: Rect, fault: Fault) -> Pi
     channels.picture(scale)
 }
 
-/// "Columns run x − rx to x + rx − 1, rows likewise. A radius of 0 means a window one pixel wide in that direction."
+/// "A window from x − r to x + r, 2r + 1 wide": one pixel wide for a radius of 0.
 pub fn span(radius: i64, fault: Fault) -> (i64, i64) {
     match (radius, fault) {
         (0, _) => (0, 0),
-        (r, Fault::WindowSymmetric) => (-r, r),
-        (r, Fault::WindowRight) => (1 - r, r),
-        (r, _) => (-r, r - 1),
+        (r, Fault::WindowShortLeft) => (1 - r, r),
+        (r, Fault::WindowShortRight) => (-r, r - 1),
+        (r, _) => (-r, r),
     }
 }
 

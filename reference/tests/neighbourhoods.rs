@@ -7,7 +7,7 @@ use reference::cases::picture;
 use reference::fault::Fault;
 use reference::picture::Picture;
 use reference::random::Random;
-use reference::window::{box_size, boxes, extreme, span};
+use reference::window::{box_size, boxes, extreme};
 
 #[test]
 fn even_boxes() {
@@ -42,10 +42,9 @@ fn extremes_from_whole_windows() {
         let (width, height) = (1 + random.below(8), 1 + random.below(8));
         let (rx, ry) = (random.within(0, 4), random.within(0, 4));
         let input = Picture::from_bytes(width, height, &picture(&mut random, width * height));
-        let ((left, right), (above, below)) = (span(rx, Fault::None), span(ry, Fault::None));
         for largest in [false, true] {
             let whole = Picture::of(width, height, |x, y| {
-                let window = (y + above..=y + below).flat_map(|v| (x + left..=x + right).map(move |u| (u, v)));
+                let window = (y - ry..=y + ry).flat_map(|v| (x - rx..=x + rx).map(move |u| (u, v)));
                 let pick = |a: u8, b: u8| if largest { a.max(b) } else { a.min(b) };
                 let each = |a: [u8; 4], b: [u8; 4]| [0, 1, 2, 3].map(|i| pick(a[i], b[i]));
                 window.map(|(u, v)| input.at(u, v)).reduce(each).expect("not empty")
@@ -57,10 +56,19 @@ fn extremes_from_whole_windows() {
 
 #[test]
 fn erode_reads_transparent_black_outside() {
-    let row = alphas(&[9, 9, 9, 9]);
-    assert_eq!(last_layer(4, 1, "erode 0 0 4 1 src 1 0\n", &row), alphas(&[0, 9, 9, 9]));
-    assert_eq!(last_layer(4, 1, "erode 0 0 4 1 src 2 0\n", &row), alphas(&[0, 0, 9, 0]));
-    assert_eq!(last_layer(4, 1, "erode 0 0 4 1 src 0 1\n", &row), alphas(&[0, 0, 0, 0]));
+    let row = alphas(&[9; 5]);
+    assert_eq!(last_layer(5, 1, "erode 0 0 5 1 src 1 0\n", &row), alphas(&[0, 9, 9, 9, 0]));
+    assert_eq!(last_layer(5, 1, "erode 0 0 5 1 src 2 0\n", &row), alphas(&[0, 0, 9, 0, 0]));
+    assert_eq!(last_layer(5, 1, "erode 0 0 5 1 src 3 0\n", &row), alphas(&[0; 5]));
+    assert_eq!(last_layer(5, 1, "erode 0 0 5 1 src 0 1\n", &row), alphas(&[0; 5]));
+}
+
+#[test]
+fn dilate_is_as_wide_on_both_sides() {
+    let row = alphas(&[0, 0, 0, 7, 0, 0, 0]);
+    assert_eq!(last_layer(7, 1, "dilate 0 0 7 1 src 2 0\n", &row), alphas(&[0, 7, 7, 7, 7, 7, 0]));
+    assert_eq!(last_layer(1, 7, "dilate 0 0 1 7 src 0 2\n", &row), alphas(&[0, 7, 7, 7, 7, 7, 0]));
+    assert_eq!(last_layer(7, 1, "dilate 0 0 7 1 src 0 0\n", &row), row);
 }
 
 #[test]

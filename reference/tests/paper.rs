@@ -1,4 +1,4 @@
-//! "Checked by hand": P1 to P12, the cases to run, and the example of document 01.
+//! "Checked by hand": P1 to P12 (P10 and P11 as request K1 has them), the cases to run, and the example of document 01.
 
 mod common;
 
@@ -89,13 +89,13 @@ fn p9_blur() {
 #[test]
 fn p10_dilate() {
     let row = alphas(&[0, 255, 0]);
-    assert_eq!(last_layer(3, 1, "dilate 0 0 3 1 src 1 0\n", &row), alphas(&[0, 255, 255]));
+    assert_eq!(last_layer(3, 1, "dilate 0 0 3 1 src 1 0\n", &row), alphas(&[255, 255, 255]));
 }
 
 #[test]
 fn p11_rectangles() {
     let source = vec![255; 32];
-    for (line, x, width) in [("dilate 0 0 8 1 src 1 0\n", 3, 2), ("blur 0 0 8 1 src 1 0\n", 1, 5)] {
+    for (line, x, width) in [("dilate 0 0 8 1 src 1 0\n", 2, 3), ("blur 0 0 8 1 src 1 0\n", 1, 5)] {
         // A workspace that the redraw cannot leave as it is shows where it works.
         let mut workspace = alphas(&[3; 8]);
         assert_eq!(redrawn(8, 1, &steps(line), region(3, 0, 1, 1), &source, &mut workspace), (Answer::DONE, width));

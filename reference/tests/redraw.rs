@@ -85,8 +85,12 @@ fn counts_by_hand() {
     assert_eq!(count("blur 0 0 20 10 src 2 0\n", [8, 4, 1, 1]), 11);
     // d of 0.25 and 0.5 is 0 and 1: no growth.
     assert_eq!(count("blur 0 0 20 10 src 0.25 0.5\n", [8, 4, 1, 1]), 1);
-    // Radius 3 grows by 2 and 3; radius 1 by 0 and 1.
-    assert_eq!(count("erode 0 0 20 10 src 3 1\n", [8, 4, 1, 1]), 12);
+    // Radius 3 grows by 3 on each side, radius 1 by 1: 7 by 3; at a corner the canvas cuts it to 4 by 2.
+    assert_eq!(count("erode 0 0 20 10 src 3 1\n", [8, 4, 1, 1]), 21);
+    assert_eq!(count("erode 0 0 20 10 src 3 1\n", [0, 0, 1, 1]), 8);
+    assert_eq!(count("dilate 0 0 20 10 src 3 1\n", [19, 9, 1, 1]), 8);
+    // Radius 0 grows nothing.
+    assert_eq!(count("dilate 0 0 20 10 src 0 0\n", [8, 4, 1, 1]), 1);
     // The smallest rectangle that holds (2, 2) and (12, 5): 11 by 4; the third input is empty.
     assert_eq!(
         count("offset 0 0 20 10 src 10 3\nflood 0 0 20 10 0 0 0 1\nmerge 0 0 20 10 src 0 1\n", [2, 2, 1, 1]),

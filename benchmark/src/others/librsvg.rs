@@ -12,7 +12,7 @@ type Create = unsafe extern "C" fn(*mut c_void) -> *mut c_void;
 /// CAIRO_FORMAT_ARGB32.
 const FORMAT: c_int = 0;
 
-const DIFFERS: &str = "all that a filter costs a document; windows of 2r + 1; no boxes below 2; other rounding";
+const DIFFERS: &str = "all that a filter costs a document; no boxes below 2; other rounding";
 
 /// The sheets that they stand beside. Larger radii take seconds.
 const FILTERS: [(&str, &str); 6] = [

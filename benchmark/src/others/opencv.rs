@@ -57,7 +57,8 @@ pub fn all(side: usize, a: &[u8]) -> Option<Vec<Other>> {
     for (kind, function) in [("erode", "cvErode"), ("dilate", "cvDilate")] {
         let morph: Morph = unsafe { process.function(function)? };
         for radius in [1, 8, 64] {
-            let window = unsafe { kernel(2 * radius, 2 * radius, radius, radius, RECT, null_mut()) };
+            let size = 2 * radius + 1;
+            let window = unsafe { kernel(size, size, radius, radius, RECT, null_mut()) };
             let run = move || unsafe { morph(src, dst, window, 1) };
             others.push(other(format!("{kind} {radius}"), MORPH_DIFFERS, Box::new(run)));
         }

@@ -20,7 +20,7 @@ fn reach(work: &Work, rect: Rect) -> Rect {
         }
         Work::Erode(radii) | Work::Dilate(radii) => {
             let [x, y] = radii.map(|r| r as i32);
-            rect.grown((x - 1).max(0), x, (y - 1).max(0), y)
+            rect.grown(x, x, y, y)
         }
         _ => rect,
     }

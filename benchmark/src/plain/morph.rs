@@ -4,7 +4,7 @@ use super::lines::{copy, Along};
 use super::short::LONGEST;
 use std::ops::Range;
 
-/// A radius in one direction. The window's lines run from y − radius to y + radius − 1.
+/// A radius in one direction. The window's lines run from y − radius to y + radius.
 pub struct Extreme {
     pub largest: bool,
     pub radius: usize,
@@ -12,7 +12,7 @@ pub struct Extreme {
 
 impl Along for Extreme {
     fn reach(&self) -> (usize, usize) {
-        (self.radius, self.radius.saturating_sub(1))
+        (self.radius, self.radius)
     }
 
     fn run(&self, src: &mut [u8], spare: &mut [u8], n: usize, wanted: Range<usize>, dst: &mut [u8], step: usize) {
@@ -59,7 +59,7 @@ impl Lines<'_> {
     }
 
     fn run(&self, spare: &mut [u8], wanted: Range<usize>, dst: &mut [u8], step: usize, pick: impl Fn(u8, u8) -> u8 + Copy) {
-        let (n, window, first) = (self.n, 2 * self.radius, wanted.start);
+        let (n, window, first) = (self.n, 2 * self.radius + 1, wanted.start);
         let mut since = vec![0; n];
         let begins = first.max(self.radius).min(wanted.end);
         self.cut_windows(first..begins, dst, step, &mut since, pick);
@@ -85,7 +85,7 @@ impl Lines<'_> {
         let mut next = 0;
         for (y, dst) in wanted.zip(dst.chunks_mut(step)) {
             if self.largest {
-                let end = (y + self.radius).min(self.count);
+                let end = (y + self.radius + 1).min(self.count);
                 (next..end).for_each(|y| fold(since, self.line(y), &pick));
                 next = end;
             }

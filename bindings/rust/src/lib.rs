@@ -106,8 +106,8 @@ pub fn render(
 /// render(3, 1, steps, &source, &mut workspace, &mut scratch)?;
 /// source[7] = 255; // the middle pixel's alpha
 /// let rect = Rect { x: 1, y: 0, width: 1, height: 1 };
-/// assert_eq!(redraw(3, 1, steps, rect, &source, &mut workspace, &mut scratch)?, 2);
-/// assert_eq!(workspace, [0, 0, 0, 0, 0, 0, 0, 255, 0, 0, 0, 255]);
+/// assert_eq!(redraw(3, 1, steps, rect, &source, &mut workspace, &mut scratch)?, 3);
+/// assert_eq!(workspace, [0, 0, 0, 255, 0, 0, 0, 255, 0, 0, 0, 255]);
 /// # Ok::<(), twillgoose::Refusal>(())
 /// ```
 ///

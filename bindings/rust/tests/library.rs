@@ -44,7 +44,7 @@ fn blur_and_dilate() {
     let row = alphas(&[0, 0, 255, 0, 0]);
     assert_eq!(last_layer(5, 1, "blur 0 0 5 1 src 1.5 0\n", &row), alphas(&[28, 57, 66, 57, 28]));
     let row = alphas(&[0, 255, 0]);
-    assert_eq!(last_layer(3, 1, "dilate 0 0 3 1 src 1 0\n", &row), alphas(&[0, 255, 255]));
+    assert_eq!(last_layer(3, 1, "dilate 0 0 3 1 src 1 0\n", &row), alphas(&[255, 255, 255]));
 }
 
 #[test]
@@ -57,7 +57,7 @@ fn a_redraw_gives_the_new_layers() {
     let mut scratch = vec![1; scratch_len(8, 1)];
     let rect = Rect { x: 3, y: 0, width: 1, height: 1 };
     let count = redraw(8, 1, lines(steps), rect, &new, &mut workspace, &mut scratch);
-    assert_eq!(count, Ok(2 + 6));
+    assert_eq!(count, Ok(3 + 7));
     assert_eq!(workspace, rendered(8, 1, steps, &new).expect("accepted"));
     assert_eq!(scratch, vec![0; scratch_len(8, 1)]);
 }

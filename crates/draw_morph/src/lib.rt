@@ -18,7 +18,6 @@ use draw_window::reached;
 use filter::Input;
 use filter::Rect;
 use raster_morph::Extreme;
-use window::less;
 
 // What a result looks at along a line: the places from `back` before it to `ahead` behind it.
 pub struct Window {
@@ -31,10 +30,7 @@ pub fn radius_window(r: usize) -> Window
     requires { ⌜ r ≤ 64 ⌝ }
     ensures { λ k. ⌜ (k .back ≡ radius r .back) × (k .ahead ≡ radius r .ahead) × (k .back ≤ 64) × (k .ahead ≤ 64) ⌝ }
 {
-    Window {
-        back: r,
-        ahead: less(r, 1),
-    }
+    Window { back: r, ahead: r }
 }
 
 // The first count pixels of a line are worked as a row of their own; width of the results, from `skip` on, go to the pixels of dst from `at` on.

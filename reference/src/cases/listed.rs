@@ -117,8 +117,8 @@ fn neighbourhoods() -> Vec<Entry> {
         // Two wide: 128 at 3 and 4; then 64 128 64; three wide: 21 64 85 64 21.
         line("P11 blur", 8, &fourth, "blur 0 0 8 1 src 1 0", [3, 0, 1, 1]),
         line("P11 cut", 8, &fourth, "dilate 4 0 4 1 src 1 0", [3, 0, 1, 1]),
-        // Rendered: 128 255 128, 64 192 192 64, 21 85 149 149 85 21. Redrawn, from the nines around: 5 9 9 132 255 132 9 9,
-        // 7 9 71 194 194 71 9 5, and x 1 width 6 of the last pass.
+        // Rendered: 128 255 255 128, 64 192 255 192 64, 21 85 170 213 170 85 21. Redrawn, from the nines around:
+        // 5 9 132 255 255 132 9 9, 7 71 194 255 194 71 9 5, and x 0 width 7 of the last pass.
         line("P11 both", 8, &fourth, "dilate 0 0 8 1 src 1 0\nblur 0 0 8 1 0 1 0", [3, 0, 1, 1]),
         line("P11 held", 8, &fourth, "blur 0 0 8 1 src 1 0", [3, 0, 1, 1]).with(|call| call.case.workspace.fill(0)),
         line("offset right", 4, &shades, "offset 0 0 4 1 src 1 0", [1, 0, 1, 1]),
