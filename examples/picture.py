@@ -1,8 +1,8 @@
 #!/usr/bin/env python3
 """picture.py [SCALE] < ROWS > PICTURE.png: the `row` lines of a sheet or of an answer, or a PAM file, as a picture over a checkerboard.
 
-Other lines than rows are passed over, so a sheet gives its source and an answer its last layer. The pixels of rows are premultiplied, as
-document 01 has them; those of a PAM file are not.
+Other lines than rows are passed over, so a sheet gives its source and an answer its last layer. The pixels of rows are premultiplied
+(RULES 2.1); those of a PAM file are not.
 """
 import struct
 import sys

@@ -1,4 +1,4 @@
-"""Numbers of a step at every edge, with the answers that document 01 gives them, halves rounded as document 02 has it (K8).
+"""Numbers of a step at every edge, with the answers that the rules give them (RULES 3).
 
     python3 number_cases.py FOLDER
 
@@ -7,7 +7,7 @@ a space, 16 lower-case hex digits, a line feed. For d the digits are a decimal's
 complement; for s they are a single's bits. The expected line repeats the input's 20 characters and adds the units
 above and below zero, or the word refused and the refusal's number.
 
-Everything is worked in exact fractions, from the two documents alone.
+Everything is worked in exact fractions, from the rules alone.
 """
 
 import random
@@ -165,7 +165,7 @@ def lines():
 
 
 def checked_by_hand(written):
-    """Document 01's own cases, and halves: 0.5 to 3.5 units and below zero, and the last halves before 1 and before 32."""
+    """The cases of RULES 11, and halves: 0.5 to 3.5 units and below zero, and the last halves before 1 and before 32."""
     assert written["1 d ffffffffffffffff"].endswith(" refused 9")
     assert written["1 s 0000000080000000"].endswith(" 0 0")
     assert written["1 d 000000000004e200"].endswith(" 2097152 0")

@@ -1,5 +1,5 @@
 #!/usr/bin/env python3
-"""pixels.py FOLDER [SEED]: cases of the arithmetic of one pixel, worked out from document 01 alone.
+"""pixels.py FOLDER [SEED]: cases of the arithmetic of one pixel, worked out from the rules alone (RULES 4 and 5).
 
 It writes FOLDER/pixels.txt, the cases, and FOLDER/pixels.expected, their answers.
 
@@ -89,7 +89,7 @@ LUMINANCE = [0] * 15 + [13926, 46884, 4725, 0, 0]
 
 
 def by_hand():
-    """Document 01's worked examples, and halves in saturate's coefficients."""
+    """The worked examples of RULES 11.1, and halves in saturate's coefficients."""
     assert premultiply(255, 128) == 128
     assert unpremultiply(1, 3) == 85 and premultiply(85, 3) == 1
     assert composite(0, (0x80, 0, 0, 0x80), (0, 0, 0xff, 0xff)) == (0x80, 0, 0x7f, 0xff)

@@ -1,4 +1,4 @@
-/* Draws document 01's example through the header: as text, by its steps, and again after a pixel has changed. */
+/* Draws the example of RULES 9.9 through the header: as text, by its steps, and again after a pixel has changed. */
 #include "twillgoose.h"
 
 #include <stdio.h>

@@ -1,4 +1,4 @@
-//! "Refusal numbers, in order of checking": 1 to 14.
+//! Refusal numbers, in the order of checking (RULES 7): 1 to 14.
 
 use crate::fault::Fault;
 use crate::number::judge;

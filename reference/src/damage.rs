@@ -1,4 +1,4 @@
-//! "Which part is redrawn": the rectangle of each step, and the count.
+//! Which part is redrawn (RULES 6.3, 6.5): the rectangle of each step, and the count.
 
 use crate::fault::Fault;
 use crate::number::UNIT;

@@ -2,7 +2,7 @@
 
 macro_rules! faults {
     ($($name:ident: $text:literal,)*) => {
-        /// Which rule is wrong; `None` is the rules as they stand.
+        /// Which rule is wrong; `None` is docs/RULES.md as it stands.
         #[derive(Clone, Copy, PartialEq, Eq, Debug)]
         pub enum Fault { None, $(#[doc = $text] $name,)* }
 

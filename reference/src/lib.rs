@@ -1,8 +1,8 @@
-//! The second program: the rules of document 01, as document 02 changes them, once more: written from the documents
-//! alone, straight and naive.
+//! The second program: the rules of a sheet (docs/RULES.md) once more, written from them alone, straight and naive.
 //!
 //! It shares nothing with the proved renderer, so that a slip in the definitions, in the compiler or at the boundary to
-//! other languages shows as a difference. Quotations in comments are the documents' words.
+//! other languages shows as a difference. Quotations in comments are the words of the request
+//! that docs/RULES.md restates.
 //!
 //! - `wide`, `number`: exact values, refusals 8 to 11, units
 //! - `pixel`, `window`, `filter`: the arithmetic of one pixel, neighbourhoods, the work of each kind

@@ -49,7 +49,7 @@ impl Fraction {
         self.over.divided(self.under).1 == Wide::ZERO
     }
 
-    /// "The nearest 1/65,536", where two are as near the even one (document 02, K8). The sign plays no part in it.
+    /// "The nearest 1/65,536", where two are as near the even one (RULES 3.4). The sign plays no part in it.
     fn rounded(self, fault: Fault) -> Fraction {
         let (below, rest) = self.over.times(UNIT as u64).divided(self.under);
         let odd = below.divided(Wide::new(2)).1 == Wide::new(1);

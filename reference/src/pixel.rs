@@ -1,4 +1,4 @@
-//! "Arithmetic of one pixel", literal. Channels are wide integers, "÷" rounds down.
+//! The arithmetic of one pixel (RULES 4 and 5), literal. Channels are wide integers, "÷" rounds down.
 
 use crate::fault::Fault;
 use crate::number::UNIT;

@@ -80,7 +80,7 @@ const RADIUS: Range = Range { low: 0, high: 64, whole: true };
 const COEFFICIENT: Range = Range { low: -256, high: 256, whole: false };
 
 impl Kind {
-    /// "Numbers, in order", and what is allowed for each.
+    /// Its numbers in order, and what is allowed for each (RULES 5.1).
     pub fn ranges(self) -> &'static [Range] {
         match self {
             Kind::Flood | Kind::Saturate => &[ZERO_TO_ONE],

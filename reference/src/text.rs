@@ -1,4 +1,4 @@
-//! "Sheets as text": the reader, which gives refusal 15 and its line.
+//! Sheets as text (RULES 9): the reader, which gives refusal 15 and its line.
 
 use crate::check::Answer;
 use crate::fault::Fault;

@@ -1,4 +1,4 @@
-//! "Neighbourhoods": box passes, and least or largest over a window, each straight from its window.
+//! Neighbourhoods (RULES 5.4 to 5.6): box passes, and least or largest over a window, each straight from its window.
 
 use crate::fault::Fault;
 use crate::picture::Picture;

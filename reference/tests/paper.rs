@@ -1,4 +1,4 @@
-//! "Checked by hand": P1 to P12 (P10 and P11 as request K1 has them), the cases to run, and the example of document 01.
+//! The worked examples of RULES 11: P1 to P12, the cases to run; and the example of 9.9.
 
 mod common;
 

@@ -1,4 +1,4 @@
-//! Document 01's rules written for speed in plain Rust: what the proved renderer is measured beside.
+//! The rules of a sheet (docs/RULES.md) written for speed in plain Rust: what the proved renderer is measured beside.
 //!
 //! It does what a call of the renderer does: it reads the step lines, checks sizes, rectangle and pixels, draws, and clears
 //! the scratch buffer. Unlike the renderer it trusts its step lines. No vector instructions are written out; the compiler

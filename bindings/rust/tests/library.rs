@@ -1,4 +1,4 @@
-//! The library on document 01's worked examples, and on calls that it must refuse.
+//! The library on the worked examples of RULES 11, and on calls that it must refuse.
 
 use twillgoose::{layer, redraw, render, scratch_len, sheet, workspace_len, Rect, Refusal};
 

@@ -1,5 +1,5 @@
 // The library for C and Rust: the entry points on numbers and byte slices, steps as lines of text. A slice passes as pointer, then
-// length. Nothing is asked beforehand: what cannot be drawn is refused with document 01's number and place, and a refusal changes no byte
+// length. Nothing is asked beforehand: what cannot be drawn is refused with the number and place of RULES 7.2, and a refusal changes no byte
 // of a slice.
 mod drawing;
 

@@ -1,5 +1,5 @@
-// Document 01's "Checked by hand", those that numbers and pixels can answer: P1 to P5, P7, P8, P12, and the 'Run' cases of numbers. Then what a
-// half between two units becomes: the even one of a number, the larger one of saturate's own coefficients.
+// The worked examples of RULES 11 that numbers and pixels can answer: P1 to P5, P7, P8, P12 (11.1), and the numbers that are run (11.2). Then
+// what a half between two units becomes: the even one of a number, the larger one of saturate's own coefficients.
 ghost use Rattle.pixel.specs.Alpha.{Valid};
 ghost use Rattle.pixel.specs.Coefficient.{Allowed};
 use super::numbers;

@@ -1,4 +1,4 @@
--- "Erode and dilate" as one operation. Assumes nothing.
+-- Erode and dilate (RULES 5.5, 5.6) as one operation. Assumes nothing.
 use Prim.Native.Nat.{ℕ}
 use Rattle.raster_morph.specs.declared.Extreme.{Extreme}
 use Rattle.raster_morph.specs.declared.Extreme.the-variants.{Least, Largest}

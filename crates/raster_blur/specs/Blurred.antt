@@ -7,7 +7,7 @@ use Rattle.window.specs.Store.{byteAt}
 use Rattle.window.specs.Window.{column, passes}
 use Rattle.window.specs.Ranges.{Outside}
 
--- "Blur, per direction": the lines at b are the passes of a blur of d down the columns of the lines at a; the lines at a are used up,
+-- A blur in one direction (RULES 5.4): the lines at b are the passes of a blur of d down the columns of the lines at a; the lines at a are used up,
 -- and nothing else changes
 pub record Blurred (d a b n count : ℕ) (s s′ : List ℕ) : Type 0 where
   pub inside : (v i : ℕ) → v < count → i < n → byteAt s′ b n v i ≡ passes count d (column s a n count i) v

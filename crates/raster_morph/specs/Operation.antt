@@ -1,4 +1,4 @@
--- "Erode and dilate": the smallest or largest over the window. Reads outside the lines give 0, "transparent black".
+-- Erode and dilate (RULES 5.5, 5.6): the smallest or largest over the window. Reads outside the lines give 0, "transparent black".
 -- Assumes nothing.
 use Prim.Native.Nat.{ℕ, _+_, _-_, min, max}
 use mathlib.Core.List.{List}

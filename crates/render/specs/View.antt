@@ -1,4 +1,4 @@
--- "A layer can be shown." Assumes nothing.
+-- "A layer can be shown." RULES 8. Assumes nothing.
 use Prim.Native.Nat.{ℕ, _*_}
 use mathlib.Core.Bool.{Bool, cond, _&&_}
 use mathlib.Core.List.{List}

@@ -1,4 +1,4 @@
-// All checks of a call, in document 01's order, before the first store.
+// All checks of a call, in the order of RULES 7.3, before the first store.
 use filter::Answer;
 use filter::Region;
 use filter::Sheet;

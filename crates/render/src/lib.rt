@@ -1,5 +1,5 @@
 // The entry points: a sheet is drawn into buffers that the caller lends, whole or in part, and a layer is shown. None asks anything
-// beforehand: what cannot be drawn is refused with document 01's number and place, and a refusal changes no byte.
+// beforehand: what cannot be drawn is refused with the number and place of RULES 7.2, and a refusal changes no byte.
 mod checks;
 pub mod views;
 

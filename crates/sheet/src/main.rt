@@ -1,4 +1,4 @@
-// Reads a sheet as text from standard input and prints its last layer, or why it is refused: document 01's program `sheet`.
+// Reads a sheet as text from standard input and prints its last layer, or why it is refused: RULES 9.7.
 // A text may have 32,768 bytes; one more is read, so that a longer one is known.
 fn main() {
     let mut text = [0u8; 32769];

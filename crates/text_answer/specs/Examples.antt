@@ -1,4 +1,4 @@
--- What is printed for document 01's example, and refusals of a text, of a sheet and of a number, computed from the rules. Assumes nothing.
+-- What is printed for the example of RULES 9.9, and refusals of a text, of a sheet and of a number, computed from the rules. Assumes nothing.
 use mathlib.Core.Path.{_≡_, refl}
 use mathlib.Core.List.{List, [], _∷_, _++_}
 use Prim.Native.Nat.{ℕ}

@@ -11,7 +11,7 @@ use Rattle.filter.specs.Picture.{Picture}
 use Rattle.text_print.specs.Digits.{digit, shortest, decimal, hexByte, hexPixel}
 use Rattle.text_print.specs.Output.{line, listed, rowFields, rowLines, okText, refusedText}
 
--- the last layer of document 01's example
+-- the last layer of the example of RULES 9.9
 abbrev pub picture : Picture
 picture x y = cond (eqb x 0) (pixel 128 0 127 255) (pixel 0 0 0 128)
 

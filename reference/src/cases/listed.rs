@@ -1,5 +1,4 @@
-//! Calls whose lines are worked out by hand: document 01's examples, halves between two units, and each refusal. The lines:
-//! tests/calls.expected.
+//! Calls whose lines are worked out by hand: the examples of RULES 11, halves between two units, and each refusal. The lines: tests/calls.expected.
 
 use super::calls::Entry;
 use super::Case;

@@ -6,7 +6,7 @@ use crate::random::Random;
 use crate::step::{Step, KINDS, MOST_STEPS};
 use crate::text::{LONGEST_TEXT, LONGEST_TEXT_SIDE};
 
-/// The example of document 01.
+/// The example of RULES 9.9.
 pub const EXAMPLE: &str =
     "canvas\t2\t1\nflood\t0\t0\t1\t1\t255\t0\t0\t0.5\nover\t0\t0\t2\t1\t0\tsrc\nrow\t0000ffff\t00000080\n";
 
