@@ -7,9 +7,9 @@
  * and the workspace holds the layers one after another.
  *
  * A slice is a pointer and its length in bytes. Every length and every number is checked: what does not fit is refused,
- * and a refusal changes no byte of any slice. What the library cannot check is the caller's part: a pointer is not null
- * and has that many bytes behind it, and what is written does not overlap anything else that is passed. Nothing is
- * allocated; a call uses up to 160 KB of stack.
+ * and a refused render or redraw changes no byte of any slice. What the library cannot check is the caller's part: a
+ * pointer is not null, not even with length 0, and has that many bytes behind it, and what is written does not overlap
+ * anything else that is passed. Nothing is allocated; a call uses up to 160 KB of stack.
  *
  * Steps are lines of text, each closed by a line feed, their fields parted by one tab: kind, x, y, width, height of its
  * region, inputs (src, alpha, or the number of an earlier step), numbers:
@@ -26,17 +26,19 @@
  *     arith     input input k1 .. k4    -256 to 256
  *     merge     1 to 4 inputs           bottom first
  *
- * A number is a decimal with at most five digits before and four after the point, or x and the eight hexadecimal digits
- * of a single. It is checked as it stands, then rounded to the nearest 1/65,536. A single halfway between two goes to the
+ * Whole fields (the region, a step's number, a flood's bytes) have 1 to 4 digits, no sign and no leading zeros. A number
+ * is an optional minus, 1 to 5 digits without leading zeros, optionally a point and 1 to 4 digits; or x and the eight
+ * lower-case hexadecimal digits of a single. It is checked as it stands, then rounded to the nearest 1/65,536. A single halfway between two goes to the
  * even one; no decimal lies there.
  *
  * Answers, in the order of checking. The place is 0 unless said:
  *
  *      0  done
- *     15  text: a line is not of the form                               place: the line, from 1
+ *     15  a step line is not of the form; so are a seventeenth line,    place: the line, from 1
+ *         a flood's byte above 255 and a merge of 0 or 5 inputs
  *      1  width or height is 0 or above 1,024
  *      2  the source is not 4 * W * H bytes
- *      3  no step, or more than 16
+ *      3  no step
  *      4  the workspace is not 4 * W * H * steps bytes
  *      5  the scratch buffer is not 8 * W * H bytes
  *      6  redraw: the rectangle is not inside the canvas
@@ -105,9 +107,10 @@ uint64_t twillgoose_redraw(size_t width, size_t height,
 uint64_t twillgoose_layer(size_t width, size_t height, size_t steps, size_t n, size_t workspace_length,
                           uint64_t *offset);
 
-/* Answers a whole sheet as text (a `canvas` line, steps, rows of pixels), as the program `sheet` does: `ok` and the last
- * layer as rows, or `refused`, number and place. Returns the length of the answer, which is stored at the start of `out`
- * where it fits; otherwise `out` is as it was. 2,371 bytes are enough for every answer. */
+/* Answers a whole sheet as text (a `canvas` line with two sides of 0 to 16, steps, rows of pixels), as the program `sheet`
+ * does: `ok` and the last layer as rows, or `refused`, number and place. A text over 32,768 bytes is refused with 15 at
+ * place 0. Returns the length of the answer, a refusal's too, which is stored at the start of `out` where it fits;
+ * otherwise `out` is as it was. 2,371 bytes are enough for every answer. */
 uint64_t twillgoose_sheet(const uint8_t *text, size_t text_length,
                           uint8_t *out, size_t out_length);
 

@@ -34,9 +34,12 @@
 //! | `arith` | input, input, k1 to k4 | −256 to 256 |
 //! | `merge` | 1 to 4 inputs, bottom first | |
 //!
-//! A number is a decimal with at most five digits before and four after the point, or `x` and the eight hexadecimal
-//! digits of a single. It is checked as it stands, then rounded to the nearest 1/65,536. A single halfway between two goes
-//! to the even one; no decimal lies there. A [`Refusal`] says what is wrong with a call, and changes no byte that was lent.
+//! Whole fields (the region, a step's number, a flood's bytes) have 1 to 4 digits, no sign and no leading zeros. A number
+//! is an optional minus, 1 to 5 digits without leading zeros, optionally a point and 1 to 4 digits; or `x` and the eight
+//! lower-case hexadecimal digits of a single. It is checked as it stands, then rounded to the nearest 1/65,536. A single
+//! halfway between two goes to the even one; no decimal lies there. A [`Refusal`] says what is wrong with a call, and
+//! changes no byte that was lent. A seventeenth step line and a merge of 0 or 5 inputs are not of the form: they are
+//! refused as lines.
 
 #![warn(missing_docs)]
 
@@ -138,7 +141,8 @@ pub fn layer(width: usize, height: usize, steps: usize, n: usize, workspace: &[u
 pub const LONGEST_ANSWER: usize = 3 + 16 * (4 + 16 * 9);
 
 /// Answers a whole sheet as text (a `canvas` line, step lines, rows of pixels), as the program `sheet` does: `ok` and the
-/// last layer as `row` lines, or one line of `refused`, number and place.
+/// last layer as `row` lines, or one line of `refused`, number and place. A text over 32,768 bytes is refused with 15 at
+/// place 0.
 ///
 /// ```
 /// let text = b"canvas\t1\t1\nlumalpha\t0\t0\t1\t1\tsrc\nrow\tffffffff\n";

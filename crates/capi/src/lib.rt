@@ -1,6 +1,6 @@
 // The library for C and Rust: the entry points on numbers and byte slices, steps as lines of text. A slice passes as pointer, then
-// length. Nothing is asked beforehand: what cannot be drawn is refused with the number and place of RULES 7.2, and a refusal changes no byte
-// of a slice.
+// length. Nothing is asked beforehand: what cannot be drawn is refused with the number and place of RULES 7.2, and a refused render or redraw
+// changes no byte of a slice. A line not of the form is 15 at its line, a seventeenth step line too; the answer to a whole text is stored in `out`.
 mod drawing;
 
 use drawing::redraw_lines;
