@@ -31,6 +31,8 @@ int main(void)
     const uint8_t *lines = (const uint8_t *)steps;
     uint64_t place, count;
 
+    printf("rules of the header and of the library: %d and %d\n", TWILLGOOSE_RULES, (int)twillgoose_rules());
+
     uint64_t number = twillgoose_render(WIDTH, HEIGHT, lines, strlen(steps), source, sizeof source,
                                         workspace, sizeof workspace, scratch, sizeof scratch, &place);
     show("render", number, place, workspace);

@@ -2,6 +2,9 @@
  *
  * Link target/staticlib/libcapi.a, which `rt staticlib capi` writes.
  *
+ * The rules have a number, TWILLGOOSE_RULES here and twillgoose_rules() in the library, which rises whenever an answer or
+ * a pixel changes: compare pictures only if both were drawn under the same number.
+ *
  * A picture of W by H pixels (1 to 1,024 each) has 4 * W * H bytes: rows from top to bottom, four bytes R, G, B, A a
  * pixel, premultiplied (no colour above its alpha). A sheet has 1 to 16 steps, numbered from 0; step n draws layer n,
  * and the workspace holds the layers one after another.
@@ -62,6 +65,9 @@
 extern "C" {
 #endif
 
+/* The rules that this header describes. */
+#define TWILLGOOSE_RULES 3
+
 enum {
     TWILLGOOSE_DONE = 0,
     TWILLGOOSE_CANVAS = 1,
@@ -113,6 +119,9 @@ uint64_t twillgoose_layer(size_t width, size_t height, size_t steps, size_t n, s
  * otherwise `out` is as it was. 2,371 bytes are enough for every answer. */
 uint64_t twillgoose_sheet(const uint8_t *text, size_t text_length,
                           uint8_t *out, size_t out_length);
+
+/* The number of the rules that the library was built with. */
+uint64_t twillgoose_rules(void);
 
 #ifdef __cplusplus
 }

@@ -137,6 +137,15 @@ pub fn layer(width: usize, height: usize, steps: usize, n: usize, workspace: &[u
     workspace.get(offset..)?.get(..length).filter(|layer| !layer.is_empty())
 }
 
+/// The rules that this page describes. The number rises whenever an answer or a pixel changes: compare pictures only if
+/// both were drawn under the same number.
+pub const RULES: u64 = 3;
+
+/// The number of the rules that the library was built with, [`RULES`] where page and library belong together.
+pub fn rules() -> u64 {
+    raw::rules()
+}
+
 /// The longest answer of [`sheet`]: 16 rows of 16 pixels.
 pub const LONGEST_ANSWER: usize = 3 + 16 * (4 + 16 * 9);
 

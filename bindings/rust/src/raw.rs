@@ -46,6 +46,8 @@ extern "C" {
     ) -> u64;
 
     fn twillgoose_sheet(text: *const u8, text_length: usize, out: *mut u8, out_length: usize) -> u64;
+
+    fn twillgoose_rules() -> u64;
 }
 
 // SAFETY of every call: each pointer and length come from one slice, or a pointer from one number, that lives through the
@@ -123,4 +125,9 @@ pub fn layer(width: usize, height: usize, steps: usize, n: usize, workspace_leng
 /// The length of the answer, stored where it fits.
 pub fn sheet(text: &[u8], out: &mut [u8]) -> usize {
     unsafe { twillgoose_sheet(text.as_ptr(), text.len(), out.as_mut_ptr(), out.len()) as usize }
+}
+
+/// The number of the rules.
+pub fn rules() -> u64 {
+    unsafe { twillgoose_rules() }
 }

@@ -34,6 +34,13 @@ fn alphas(alphas: &[u8]) -> Vec<u8> {
 }
 
 #[test]
+fn one_number_of_the_rules() {
+    assert_eq!(twillgoose::rules(), twillgoose::RULES);
+    let page = std::fs::read_to_string(concat!(env!("CARGO_MANIFEST_DIR"), "/../../docs/RULES.md")).expect("the rules");
+    assert!(page.contains(&format!("these are **rules {}**", twillgoose::RULES)));
+}
+
+#[test]
 fn over() {
     let steps = "flood 0 0 1 1 255 0 0 0.5\nover 0 0 1 1 0 src\n";
     assert_eq!(last_layer(1, 1, steps, &[0, 0, 255, 255]), [0x80, 0, 0x7f, 0xff]);

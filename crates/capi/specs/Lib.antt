@@ -1,2 +1,3 @@
 -- What the library's functions promise.
 pub mod Lines
+pub mod Rules

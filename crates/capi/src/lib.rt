@@ -8,13 +8,18 @@ use drawing::render_lines;
 use filter::Region;
 ghost use mathlib.Core.Path.{_≡_};
 ghost use mathlib.Core.Bool.{true, cond};
+ghost use Prim.Native.Nat.{_≤_};
 ghost use lib.Dec.{leb};
 ghost use lib.ListN.{length};
 ghost use Rattle.render.specs.Promise.{layerBytes, redrawnBytes, zeros, Redraws, AllValid};
 ghost use Rattle.render.specs.View.{viewAt};
 ghost use Rattle.text.specs.Many.{stored};
-ghost use Rattle.text_answer.specs.Answer.{printedOf};
+ghost use Rattle.text_answer.specs.Answer.{longest, printedOf};
 ghost use Rattle.capi.specs.Lines.{stepsIn, countIn, renderAnswer, redrawAnswer, numberFor, placeFor, countFor, drawn?, ifDrawn, region};
+ghost use Rattle.capi.specs.Rules.{rulesNumber};
+
+// The rules of this build: RULES.md names them at its head.
+pub const RULES: u64 = 3;
 
 // Number and place of an answer.
 pub struct Reply {
@@ -97,7 +102,7 @@ pub extern "C" fn twillgoose_layer(
     workspace: usize,
     offset: &mut u64,
 ) -> u64
-    ensures length { λ r. ⌜ r ≡ viewAt width height steps n workspace .bytes ⌝ }
+    ensures long { λ r. ⌜ r ≡ viewAt width height steps n workspace .bytes ⌝ }
     ensures offset { λ _. ⌜ now (offset .exit) ≡ viewAt width height steps n workspace .offset ⌝ }
 {
     let v = render::views::place(width, height, steps, n, workspace);
@@ -108,9 +113,18 @@ pub extern "C" fn twillgoose_layer(
 // What `sheet` prints for a text, stored at the start of out where it fits; returns its length.
 #[no_mangle]
 pub extern "C" fn twillgoose_sheet(text: &[u8], out: &mut [u8]) -> u64
-    ensures length { λ r. ⌜ r ≡ length (printedOf (now (text .entry))) ⌝ }
+    ensures long { λ r. ⌜ r ≡ length (printedOf (now (text .entry))) ⌝ }
+    ensures enough { λ r. ⌜ r ≤ longest ⌝ }
     ensures printed { λ _. ⌜ now (out .exit) ≡ cond (leb (length (printedOf (now (text .entry)))) (length (now (out .entry)))) (stored (now (out .entry)) 0 (printedOf (now (text .entry)))) (now (out .entry)) ⌝ }
 {
-    let length = text_answer::answer(text, out);
-    length as u64
+    let n = text_answer::answer(text, out);
+    n as u64
+}
+
+// Which rules this build has; a grader compares pictures drawn under the same number only.
+#[no_mangle]
+pub extern "C" fn twillgoose_rules() -> u64
+    ensures number { λ r. ⌜ r ≡ rulesNumber ⌝ }
+{
+    RULES
 }

@@ -2,10 +2,12 @@
 ghost use mathlib.Core.Path.{_≡_};
 ghost use Prim.Native.Nat.{_+_, _*_, _≤_, _<_};
 ghost use lib.ListN.{length};
+ghost use Rattle.window.specs.Store.{WorkBuffer};
 ghost use Rattle.filter.specs.Kinds.{work, reads};
 ghost use Rattle.filter.specs.Earlier.{Earlier};
 ghost use Rattle.filter.specs.Accepted.{Within, Bounded};
 ghost use Rattle.filter.specs.Bytes.{size};
+ghost use Rattle.filter.specs.Limits.{longestSide, mostSteps};
 ghost use Rattle.stage.specs.Buffers.{stands, Sized, ValidInputs};
 ghost use Rattle.stage.specs.Drawn.{Drawn};
 ghost use Rattle.draw.specs.Cleared.{Cleared};
@@ -29,7 +31,8 @@ pub fn draw(
     rect: Rect,
 )
     requires { ⌜ Sized w h n (now source) (now workspace) × (length (now scratch) ≡ 2 * size w h) × ValidInputs n (stands w h (now source) (now workspace)) × Earlier n (reads primitive) × Bounded primitive × Within w h rect ⌝ }
-    ensures { λ _. ⌜ Drawn w h n rect (work w h primitive (stands w h (now (source .entry)) (now (workspace .entry)))) (now (workspace .entry)) (now (workspace .exit)) × (length (now (scratch .exit)) ≡ length (now (scratch .entry))) ⌝ }
+    ensures { λ _. ⌜ Drawn w h n rect (work w h primitive (stands w h (now (source .entry)) (now (workspace .entry)))) (now (workspace .entry)) (now (workspace .exit)) ⌝ }
+    ensures { λ _. ⌜ WorkBuffer (now (scratch .entry)) (now (scratch .exit)) ⌝ }
 {
     match primitive {
         Primitive::Blur(i, dx, dy) => {
@@ -57,7 +60,7 @@ fn covers(rect: Rect, w: usize, h: usize) -> bool
 // Everything of layer n outside a rectangle is cleared; the inside is left to whoever draws it. A rectangle that holds the canvas leaves
 // nothing to clear.
 pub fn clear_around(workspace: &mut [u8], w: usize, h: usize, n: usize, rect: Rect)
-    requires { ⌜ (w ≤ 1024) × (h ≤ 1024) × (n < 16) × (n * size w h + size w h ≤ length (now workspace)) ⌝ }
+    requires { ⌜ (w ≤ longestSide) × (h ≤ longestSide) × (n < mostSteps) × (n * size w h + size w h ≤ length (now workspace)) ⌝ }
     ensures { λ _. ⌜ Cleared w h n rect (now (workspace .entry)) (now (workspace .exit)) ⌝ }
 {
     if covers(rect, w, h) {

@@ -22,9 +22,9 @@ use Rattle.draw_window.proofs.Channels.{channel, channel-at, pixel-bytes}
 use Rattle.draw_window.proofs.Rules.{Banded}
 use Rattle.draw_window.proofs.Strips.{strip-more}
 use Rattle.draw_window.proofs.Bands.{band-channel}
-use Rattle.draw_blur.specs.Lanes.{Lanes, Gathered}
+use Rattle.draw_blur.specs.Lanes.{Lanes, Spread, Gathered}
 
-pub lanes-none : (p : Picture) (o lo from to y : ℕ) (d : List ℕ) → Lanes p o lo from to y 0 d
+lanes-none : (p : Picture) (o lo from to y : ℕ) (d : List ℕ) → Lanes p o lo from to y 0 d
 lanes-none p o lo from to y d = record { same = λ x k a b c. absurd (omega arith) }
 
 -- two lanes have no byte in common
@@ -32,7 +32,7 @@ lane-apart : (a v j k c i : ℕ) → j < k → k < 8 → c < 4 → i < 4 → 0 +
 lane-apart a v j k c i h l m n e = absurd (omega arith)
 
 -- one lane more
-pub lanes-more : (p : Picture) (from to y k : ℕ) (row₀ row d d′ : List ℕ) → k < 8 → Lanes p 0 from from to y k d → Loaded p (y + k) from to row₀ row
+lanes-more : (p : Picture) (from to y k : ℕ) (row₀ row d d′ : List ℕ) → k < 8 → Lanes p 0 from from to y k d → Loaded p (y + k) from to row₀ row
     → Rows (λ x c. byteAt row 0 4 x c) (4 * k) 32 4 (to - from) d d′ → Lanes p 0 from from to y (k + 1) d′
 lanes-more p from to y k row₀ row d d′ few L G R = record {
   same = λ x j a b h. ⊎-elim
@@ -48,6 +48,17 @@ lanes-more p from to y k row₀ row d d′ few L G R = record {
       ap (λ (z : ℕ). getD d′ z 0) e ∙ R .inside (x - from) c (omega arith) m ∙ ap (λ (z : ℕ). getD row z 0) g
       ∙ sym (channel-at row (0 + 4 * (x - from)) c m) ∙ ap (channel c) (G .inside (x - from) (omega arith) (omega arith) ∙ ap (λ (z : ℕ). p z (y + k)) f))))
       (lt-or-le j k);
+}
+
+pub spread-none : (p : Picture) (from to y : ℕ) (d : List ℕ) → Spread p from to y 0 d d
+spread-none p from to y d = record { lanes = lanes-none p 0 from from to y d; outside = λ j h. refl; long = refl }
+
+pub spread-more : (p : Picture) (from to y k : ℕ) (row₀ row d₀ d d′ : List ℕ) → k < 8 → Spread p from to y k d₀ d → Loaded p (y + k) from to row₀ row
+    → Rows (λ x c. byteAt row 0 4 x c) (4 * k) 32 4 (to - from) d d′ → Spread p from to y (k + 1) d₀ d′
+spread-more p from to y k row₀ row d₀ d d′ few S G R = record {
+  lanes = lanes-more p from to y k row₀ row d d′ few (S .lanes) G R;
+  outside = λ j h. R .outside j (λ v i a b e. h v (4 * k + i) a (omega arith) (omega (arith, e))) ∙ S .outside j (λ v i a b. h v i a (omega arith));
+  long = R .long ∙ S .long;
 }
 
 -- lanes that are worked along the lines
@@ -70,7 +81,7 @@ lanes-worked rule back ahead w h p blank B r y count left right lo hi s s′ R w
         ap (λ (z : ℕ). getD s z 0) e ∙ sym (channel-at s (0 + (lo + j - lo) * 32 + 4 * k) c m) ∙ ap (channel c) (L .same (lo + j) k (omega arith) (omega arith) h)
 
 pub gathered-none : (s : List ℕ) (o at width : ℕ) (d : List ℕ) → Gathered s o at width 0 d d
-gathered-none s o at width d = record { inside = λ k j h l. absurd (omega arith); before = λ i h. refl; long = refl }
+gathered-none s o at width d = record { inside = λ k j h l. absurd (omega arith); before = λ i h. refl; after = λ i h. refl; long = refl }
 
 -- one row more
 pub gathered-more : (s : List ℕ) (o at width k : ℕ) (d₀ d d′ : List ℕ) → Gathered s o at width k d₀ d
@@ -89,6 +100,7 @@ gathered-more s o at width k d₀ d d′ G R = record {
       ap (λ (z : ℕ). getD d′ z 0) e ∙ R .inside j c l n ∙ ap (λ (z : ℕ). getD s z 0) f)))
       (lt-or-le v k);
   before = λ i h. R .outside i (λ x e hx he q. absurd (omega arith)) ∙ G .before i h;
+  after = λ i h. R .outside i (λ x e hx he q. absurd (omega arith)) ∙ G .after i (omega arith);
   long = R .long ∙ G .long;
 }
 

@@ -3,8 +3,9 @@ ghost use mathlib.Core.Bool.{true};
 ghost use Prim.Native.Nat.{_+_, _-_, _*_, _≤_, _<_};
 ghost use lib.ListN.{length};
 ghost use Rattle.filter.specs.Checks.{allowed?};
+ghost use Rattle.filter.specs.Limits.{longestSide};
 ghost use Rattle.stage.specs.Buffers.{stands, Sized};
-ghost use Rattle.draw_blur.specs.Lanes.{Lanes, Gathered};
+ghost use Rattle.draw_blur.specs.Lanes.{Spread, Gathered};
 use draw_window::Span;
 use filter::Input;
 use raster_blur::rows::copy_rows;
@@ -24,12 +25,12 @@ pub fn spread_rows(
     lines: &mut [u8],
 )
     requires { ⌜ Sized w h n (now source) (now workspace) × (allowed? n input ≡ true) × (y + count ≤ h) × (count ≤ 8) ⌝ }
-    requires { ⌜ (span .from ≤ span .to) × (span .to ≤ w) × (length (now lines) ≡ 65536) ⌝ }
-    ensures { λ _. ⌜ Lanes (stands w h (now (source .entry)) (now (workspace .entry)) input) 0 (span .from) (span .from) (span .to) y count (now (lines .exit)) ⌝ }
+    requires { ⌜ (span .from ≤ span .to) × (span .to ≤ w) × (length (now lines) ≡ 64 * longestSide) ⌝ }
+    ensures { λ _. ⌜ Spread (stands w h (now (source .entry)) (now (workspace .entry)) input) (span .from) (span .to) y count (now (lines .entry)) (now (lines .exit)) ⌝ }
 {
     let from = span.from;
     let to = span.to;
-    let mut row = [0u8; 4096];
+    let mut row = [0u8; window::ROW];
     for k in 0..count {
         stage::load(workspace, source, w, h, n, input, y + k, from, to, &mut row);
         spread(&row, lines, 4 * k, to - from);

@@ -4,11 +4,13 @@ ghost use mathlib.Core.Bool.{true};
 ghost use mathlib.Core.Logic.{_⊎_};
 ghost use Prim.Native.Nat.{_+_, _-_, _*_, _≤_, _<_};
 ghost use lib.ListN.{length};
+ghost use Rattle.window.specs.Store.{WorkBuffer};
 ghost use Rattle.filter.specs.Kinds.{work};
 ghost use Rattle.filter.specs.declared.Primitive.the-variants.{Blur};
 ghost use Rattle.filter.specs.Checks.{allowed?};
 ghost use Rattle.filter.specs.Accepted.{Within};
 ghost use Rattle.filter.specs.Bytes.{size};
+ghost use Rattle.filter.specs.Limits.{longestSide, mostPixels};
 ghost use Rattle.stage.specs.Buffers.{stands, Sized};
 ghost use Rattle.stage.specs.Drawn.{Drawn};
 ghost use Rattle.stage.specs.Strip.{Strip};
@@ -24,6 +26,9 @@ use window::spread_of;
 
 pub mod lanes; // eight rows at a time, turned into lines of 32 bytes
 
+// The bytes of such lines for the longest rows.
+const TILE: usize = 32 * window::SIDE;
+
 // The passes of a blur of d along the columns of count lines of n bytes at the start of a buffer. The answer is where the results start:
 // at half, or at 0 where a blur has no passes.
 fn pass_lines(
@@ -34,7 +39,7 @@ fn pass_lines(
     d: usize,
     sums: &mut [u16],
 ) -> usize
-    requires { ⌜ (2 * half ≤ length (now buf)) × (count * n ≤ half) × (n ≤ length (now sums)) × (count ≤ 1024) × (d ≤ 60) ⌝ }
+    requires { ⌜ (2 * half ≤ length (now buf)) × (count * n ≤ half) × (n ≤ length (now sums)) × (count ≤ longestSide) × (d ≤ 60) ⌝ }
     ensures { λ r. ⌜ Worked (blurs d) r n count (now (buf .entry)) (now (buf .exit)) × ((r ≡ 0) ⊎ (r ≡ half)) ⌝ }
 {
     if d < 2 {
@@ -69,13 +74,13 @@ fn blur_across(
     let span = reached(w, left, right, reach, reach);
     let places = span.to - span.from;
     let skip = 32 * (left - span.from);
-    let mut tile = [0u8; 65536];
+    let mut tile = [0u8; 2 * TILE];
     let mut sums = [0u16; 32];
     let mut y = top;
     while y < bottom {
         let count = lesser(8, bottom - y);
         spread_rows(workspace, source, w, h, n, input, y, count, span, &mut tile);
-        let o = pass_lines(&mut tile, 32768, 32, places, d, &mut sums);
+        let o = pass_lines(&mut tile, TILE, 32, places, d, &mut sums);
         let at = (y - top) * width;
         gather_rows(&tile, o + skip, scratch, at, width, count);
         y += count;
@@ -84,13 +89,13 @@ fn blur_across(
 
 // A strip at the start of scratch, worked along its columns. The answer is the pixel where the result starts: 0 or half.
 fn blur_down(scratch: &mut [u8], half: usize, strip: Rect, d: usize) -> usize
-    requires { ⌜ (length (now scratch) ≡ 8 * half) × (half ≤ 1048576) × (d ≤ 60) ⌝ }
-    requires { ⌜ (strip .left < strip .right) × (strip .right ≤ 1024) × (strip .top < strip .bottom) × (strip .bottom ≤ 1024) × ((strip .bottom - strip .top) * (strip .right - strip .left) ≤ half) ⌝ }
+    requires { ⌜ (length (now scratch) ≡ 8 * half) × (half ≤ mostPixels) × (d ≤ 60) ⌝ }
+    requires { ⌜ (strip .left < strip .right) × (strip .right ≤ longestSide) × (strip .top < strip .bottom) × (strip .bottom ≤ longestSide) × ((strip .bottom - strip .top) * (strip .right - strip .left) ≤ half) ⌝ }
     ensures { λ r. ⌜ Worked (blurs d) (4 * r) (4 * (strip .right - strip .left)) (strip .bottom - strip .top) (now (scratch .entry)) (now (scratch .exit)) × (r ≤ half) ⌝ }
 {
     let n = 4 * (strip.right - strip.left);
     let count = strip.bottom - strip.top;
-    let mut sums = [0u16; 4096];
+    let mut sums = [0u16; window::ROW];
     pass_lines(scratch, 4 * half, n, count, d, &mut sums) / 4
 }
 
@@ -109,7 +114,8 @@ pub fn draw_blur(
 )
     requires { ⌜ Sized w h n (now source) (now workspace) × (length (now scratch) ≡ 2 * size w h) × (allowed? n input ≡ true) ⌝ }
     requires { ⌜ (dx ≤ 60) × (dy ≤ 60) × Within w h rect ⌝ }
-    ensures { λ _. ⌜ Drawn w h n rect (work w h (Blur input dx dy) (stands w h (now (source .entry)) (now (workspace .entry)))) (now (workspace .entry)) (now (workspace .exit)) × (length (now (scratch .exit)) ≡ length (now (scratch .entry))) ⌝ }
+    ensures { λ _. ⌜ Drawn w h n rect (work w h (Blur input dx dy) (stands w h (now (source .entry)) (now (workspace .entry)))) (now (workspace .entry)) (now (workspace .exit)) ⌝ }
+    ensures { λ _. ⌜ WorkBuffer (now (scratch .entry)) (now (scratch .exit)) ⌝ }
 {
     if rect.right <= rect.left {
         return;

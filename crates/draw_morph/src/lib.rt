@@ -3,11 +3,13 @@ ghost use mathlib.Core.Path.{_≡_};
 ghost use mathlib.Core.Bool.{true};
 ghost use Prim.Native.Nat.{_+_, _-_, _*_, _≤_, _<_};
 ghost use lib.ListN.{length};
+ghost use Rattle.window.specs.Store.{WorkBuffer};
 ghost use Rattle.pixel.specs.Bytes.{Painted};
 ghost use Rattle.filter.specs.Kinds.{radius, work};
 ghost use Rattle.filter.specs.Checks.{allowed?};
 ghost use Rattle.filter.specs.Accepted.{Within};
 ghost use Rattle.filter.specs.Bytes.{size};
+ghost use Rattle.filter.specs.Limits.{longestSide, longestRow, mostPixels};
 ghost use Rattle.stage.specs.Buffers.{stands, Sized};
 ghost use Rattle.stage.specs.Drawn.{Drawn};
 ghost use Rattle.stage.specs.Strip.{Strip};
@@ -44,11 +46,11 @@ fn extreme_row(
     at: usize,
     width: usize,
 )
-    requires { ⌜ (length (now line) ≡ 8192) × (0 < count) × (count ≤ 1024) × (k .back ≤ 64) × (k .ahead ≤ 64) ⌝ }
+    requires { ⌜ (length (now line) ≡ 2 * longestRow) × (0 < count) × (count ≤ longestSide) × (k .back ≤ 64) × (k .ahead ≤ 64) ⌝ }
     requires { ⌜ (skip + width ≤ count) × (4 * (at + width) ≤ length (now dst)) ⌝ }
     ensures { λ _. ⌜ Painted (λ j. alongRow (extremes op (k .back) (k .ahead)) (now (line .entry)) count (skip + (j - at))) 0 at (at + width) (now (dst .entry)) (now (dst .exit)) ⌝ }
 {
-    let here = raster_morph::extreme_lines(op, line, 0, 4096, 4, count, k.back, k.ahead);
+    let here = raster_morph::extreme_lines(op, line, 0, window::ROW, 4, count, k.back, k.ahead);
     raster::row::copy_pixels(&line[..], here / 4 + skip, dst, at, at + width);
 }
 
@@ -77,7 +79,7 @@ fn extreme_across(
     let span = reached(w, left, right, k.back, k.ahead);
     let from = span.from;
     let to = span.to;
-    let mut line = [0u8; 8192];
+    let mut line = [0u8; 2 * window::ROW];
     for y in top..bottom {
         stage::load(workspace, source, w, h, n, input, y, from, to, &mut line);
         let at = (y - top) * width;
@@ -87,8 +89,8 @@ fn extreme_across(
 
 // A strip at the start of scratch, worked along its columns. The answer is the pixel where the result starts: 0 or half.
 fn extreme_down(op: Extreme, scratch: &mut [u8], half: usize, strip: Rect, k: Window) -> usize
-    requires { ⌜ (length (now scratch) ≡ 8 * half) × (half ≤ 1048576) × (k .back ≤ 64) × (k .ahead ≤ 64) ⌝ }
-    requires { ⌜ (strip .left < strip .right) × (strip .right ≤ 1024) × (strip .top < strip .bottom) × ((strip .bottom - strip .top) * (strip .right - strip .left) ≤ half) ⌝ }
+    requires { ⌜ (length (now scratch) ≡ 8 * half) × (half ≤ mostPixels) × (k .back ≤ 64) × (k .ahead ≤ 64) ⌝ }
+    requires { ⌜ (strip .left < strip .right) × (strip .right ≤ longestSide) × (strip .top < strip .bottom) × ((strip .bottom - strip .top) * (strip .right - strip .left) ≤ half) ⌝ }
     ensures { λ r. ⌜ Worked (extremes op (k .back) (k .ahead)) (4 * r) (4 * (strip .right - strip .left)) (strip .bottom - strip .top) (now (scratch .entry)) (now (scratch .exit)) × (r ≤ half) ⌝ }
 {
     let n = 4 * (strip.right - strip.left);
@@ -113,7 +115,8 @@ pub fn draw_extreme(
 )
     requires { ⌜ Sized w h n (now source) (now workspace) × (length (now scratch) ≡ 2 * size w h) × (allowed? n input ≡ true) ⌝ }
     requires { ⌜ (rx ≤ 64) × (ry ≤ 64) × Within w h rect ⌝ }
-    ensures { λ _. ⌜ Drawn w h n rect (work w h (morphology op input rx ry) (stands w h (now (source .entry)) (now (workspace .entry)))) (now (workspace .entry)) (now (workspace .exit)) × (length (now (scratch .exit)) ≡ length (now (scratch .entry))) ⌝ }
+    ensures { λ _. ⌜ Drawn w h n rect (work w h (morphology op input rx ry) (stands w h (now (source .entry)) (now (workspace .entry)))) (now (workspace .entry)) (now (workspace .exit)) ⌝ }
+    ensures { λ _. ⌜ WorkBuffer (now (scratch .entry)) (now (scratch .exit)) ⌝ }
 {
     if rect.right <= rect.left {
         return;

@@ -16,6 +16,7 @@ use Rattle.filter.specs.Picture.{Picture}
 use Rattle.filter.specs.Kinds.{shifted}
 use Rattle.filter.specs.Valid.{BlankOutside}
 use Rattle.filter.specs.Accepted.{Near}
+use Rattle.filter.specs.Limits.{longestSide}
 use Rattle.stage.specs.Buffers.{Loaded}
 use Rattle.draw_point.proofs.Strokes.{loaded-pixel}
 
@@ -103,5 +104,5 @@ module _ (dx dy : Shift) (p : Picture) (w h y v from to first last : ℕ) (row r
       (lt-or-le (x + dx .minus) (dx .plus))
 
 -- a move one way keeps the loaded columns within a row
-pub shift-small : (d : Shift) (w from first : ℕ) → Near d → w ≤ 1024 → from ≤ w → first ≡ min (from + d .minus - d .plus) w → d .plus + first ≤ 1024
-shift-small d w from first n lw lf e = ⊎-elim (λ (z : d .plus ≡ 0). omega arith) (λ (z : d .minus ≡ 0). let l : d .plus ≤ 1024 = n .plus in omega arith) (n .one-way)
+pub shift-small : (d : Shift) (w from first : ℕ) → Near d → w ≤ longestSide → from ≤ w → first ≡ min (from + d .minus - d .plus) w → d .plus + first ≤ longestSide
+shift-small d w from first n lw lf e = ⊎-elim (λ (z : d .plus ≡ 0). omega arith) (λ (z : d .minus ≡ 0). let l : d .plus ≤ longestSide = n .plus in omega arith) (n .one-way)

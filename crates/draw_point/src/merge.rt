@@ -3,6 +3,7 @@ ghost use mathlib.Core.Path.{_≡_};
 ghost use mathlib.Core.Bool.{true};
 ghost use Prim.Native.Nat.{_+_, _-_, _*_};
 ghost use lib.ListN.{length};
+ghost use Rattle.window.specs.Store.{WorkBuffer};
 ghost use Rattle.pixel.specs.declared.Operator.the-variants as op;
 ghost use Rattle.pixel.specs.Bytes.{pixelAt, Painted, ValidRow};
 ghost use Rattle.pixel.specs.Composite.{composited};
@@ -98,6 +99,8 @@ pub fn paint_merge(
     requires { ⌜ Drawable w h n (now source) (now workspace) (P.Merge count inputs) × Span w h y from to ⌝ }
     requires { ⌜ (length (now a) ≡ 4 * (to - from)) × (length (now g) ≡ 4 * (to - from)) × (length (now row) ≡ 4 * (to - from)) ⌝ }
     ensures { λ _. ⌜ Painted (λ x. work w h (P.Merge count inputs) (stands w h (now (source .entry)) (now (workspace .entry))) x y) (rowAt w h n y) from to (now (workspace .entry)) (now (workspace .exit)) ⌝ }
+    ensures { λ _. ⌜ WorkBuffer (now (a .entry)) (now (a .exit)) × WorkBuffer (now (g .entry)) (now (g .exit)) ⌝ }
+    ensures { λ _. ⌜ WorkBuffer (now (row .entry)) (now (row .exit)) ⌝ }
 {
     stack(
         &workspace[..],

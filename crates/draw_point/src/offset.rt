@@ -2,6 +2,7 @@
 ghost use mathlib.Core.Path.{_≡_};
 ghost use Prim.Native.Nat.{_-_, _*_, min};
 ghost use lib.ListN.{length};
+ghost use Rattle.window.specs.Store.{WorkBuffer};
 ghost use Rattle.pixel.specs.Bytes.{Painted};
 ghost use Rattle.filter.specs.declared.Primitive.the-variants as P;
 ghost use Rattle.filter.specs.Kinds.{work};
@@ -44,6 +45,7 @@ pub fn paint_offset(
 )
     requires { ⌜ Drawable w h n (now source) (now workspace) (P.Offset i dx dy) × Span w h y from to × (length (now a) ≡ 4 * (to - from)) ⌝ }
     ensures { λ _. ⌜ Painted (λ x. work w h (P.Offset i dx dy) (stands w h (now (source .entry)) (now (workspace .entry))) x y) (rowAt w h n y) from to (now (workspace .entry)) (now (workspace .exit)) ⌝ }
+    ensures { λ _. ⌜ WorkBuffer (now (a .entry)) (now (a .exit)) ⌝ }
 {
     let none = Pixel {
         r: 0,

@@ -2,11 +2,13 @@
 ghost use mathlib.Core.Path.{_≡_};
 ghost use Prim.Native.Nat.{_+_, _-_, _*_, _≤_, _<_};
 ghost use lib.ListN.{length};
+ghost use Rattle.window.specs.Store.{WorkBuffer};
 ghost use Rattle.pixel.specs.Bytes.{Painted};
 ghost use Rattle.raster_color.specs.Tables.{Combines, Mixes, Weighs, Unpremultiplies};
 ghost use Rattle.filter.specs.declared.Primitive.the-variants as P;
 ghost use Rattle.filter.specs.Kinds.{work};
 ghost use Rattle.filter.specs.Bytes.{size};
+ghost use Rattle.filter.specs.Limits.{longestSide, mostPixels, mostSteps};
 ghost use Rattle.stage.specs.Buffers.{stands, rowAt};
 ghost use Rattle.draw_point.specs.Row.{Drawable, Span};
 use filter::Input;
@@ -17,8 +19,8 @@ use pixel::Pixel;
 
 // The index in the workspace of the pixel x of row y of layer n.
 pub fn start(w: usize, h: usize, n: usize, y: usize, x: usize) -> usize
-    requires { ⌜ (w ≤ 1024) × (h ≤ 1024) × (n < 16) × (y < h) × (x ≤ w) ⌝ }
-    ensures { λ r. ⌜ (r ≡ rowAt w h n y + 4 * x) × (r + 4 * (w - x) ≤ n * size w h + size w h) × (r ≤ 67108864) ⌝ }
+    requires { ⌜ (w ≤ longestSide) × (h ≤ longestSide) × (n < mostSteps) × (y < h) × (x ≤ w) ⌝ }
+    ensures { λ r. ⌜ (r ≡ rowAt w h n y + 4 * x) × (r + 4 * (w - x) ≤ n * size w h + size w h) × (r ≤ 4 * (mostSteps * mostPixels)) ⌝ }
 {
     4 * (stage::place(w, h, n, y) + x)
 }
@@ -33,7 +35,7 @@ pub fn paint_flood(
     from: usize,
     to: usize,
 )
-    requires { ⌜ (w ≤ 1024) × (h ≤ 1024) × (n < 16) × (n * size w h + size w h ≤ length (now workspace)) × Span w h y from to ⌝ }
+    requires { ⌜ (w ≤ longestSide) × (h ≤ longestSide) × (n < mostSteps) × (n * size w h + size w h ≤ length (now workspace)) × Span w h y from to ⌝ }
     ensures { λ _. ⌜ Painted (λ x. p) (rowAt w h n y) from to (now (workspace .entry)) (now (workspace .exit)) ⌝ }
 {
     let count = to - from;
@@ -62,6 +64,8 @@ pub fn paint_composite(
     requires { ⌜ Drawable w h n (now source) (now workspace) (P.Composite op i j) × Span w h y from to ⌝ }
     requires { ⌜ (length (now a) ≡ 4 * (to - from)) × (length (now b) ≡ 4 * (to - from)) × (length (now f) ≡ 4 * (to - from)) × (length (now g) ≡ 4 * (to - from)) ⌝ }
     ensures { λ _. ⌜ Painted (λ x. work w h (P.Composite op i j) (stands w h (now (source .entry)) (now (workspace .entry))) x y) (rowAt w h n y) from to (now (workspace .entry)) (now (workspace .exit)) ⌝ }
+    ensures { λ _. ⌜ WorkBuffer (now (a .entry)) (now (a .exit)) × WorkBuffer (now (b .entry)) (now (b .exit)) ⌝ }
+    ensures { λ _. ⌜ WorkBuffer (now (f .entry)) (now (f .exit)) × WorkBuffer (now (g .entry)) (now (g .exit)) ⌝ }
 {
     let count = to - from;
     let lo = start(w, h, n, y, from);
@@ -90,6 +94,7 @@ pub fn paint_combine(
     requires { ⌜ Drawable w h n (now source) (now workspace) (P.Combine coefficients i j) × Span w h y from to ⌝ }
     requires { ⌜ Combines coefficients (now sums) × (length (now a) ≡ 4 * (to - from)) × (length (now b) ≡ 4 * (to - from)) ⌝ }
     ensures { λ _. ⌜ Painted (λ x. work w h (P.Combine coefficients i j) (stands w h (now (source .entry)) (now (workspace .entry))) x y) (rowAt w h n y) from to (now (workspace .entry)) (now (workspace .exit)) ⌝ }
+    ensures { λ _. ⌜ WorkBuffer (now (a .entry)) (now (a .exit)) × WorkBuffer (now (b .entry)) (now (b .exit)) ⌝ }
 {
     let count = to - from;
     let lo = start(w, h, n, y, from);
@@ -124,6 +129,7 @@ pub fn paint_transform(
     requires { ⌜ Drawable w h n (now source) (now workspace) (P.Transform i matrix) × Span w h y from to ⌝ }
     requires { ⌜ Mixes matrix (now products) × Unpremultiplies (now inverse) × (length (now a) ≡ 4 * (to - from)) ⌝ }
     ensures { λ _. ⌜ Painted (λ x. work w h (P.Transform i matrix) (stands w h (now (source .entry)) (now (workspace .entry))) x y) (rowAt w h n y) from to (now (workspace .entry)) (now (workspace .exit)) ⌝ }
+    ensures { λ _. ⌜ WorkBuffer (now (a .entry)) (now (a .exit)) ⌝ }
 {
     let count = to - from;
     let lo = start(w, h, n, y, from);
@@ -156,6 +162,7 @@ pub fn paint_luminance(
     requires { ⌜ Drawable w h n (now source) (now workspace) (P.Luminance i) × Span w h y from to ⌝ }
     requires { ⌜ Weighs (now luma) × Unpremultiplies (now inverse) × (length (now a) ≡ 4 * (to - from)) ⌝ }
     ensures { λ _. ⌜ Painted (λ x. work w h (P.Luminance i) (stands w h (now (source .entry)) (now (workspace .entry))) x y) (rowAt w h n y) from to (now (workspace .entry)) (now (workspace .exit)) ⌝ }
+    ensures { λ _. ⌜ WorkBuffer (now (a .entry)) (now (a .exit)) ⌝ }
 {
     let count = to - from;
     let lo = start(w, h, n, y, from);

@@ -149,10 +149,10 @@ pub fn draw_prepared(
     requires { ⌜ Drawable w h n (now source) (now workspace) primitive × Pointwise primitive × Prepared primitive (now sums) (now products) (now luma) (now inverse) × Within w h rect × (rect .left ≤ rect .right) ⌝ }
     ensures { λ _. ⌜ Drawn w h n rect (work w h primitive (stands w h (now (source .entry)) (now (workspace .entry)))) (now (workspace .entry)) (now (workspace .exit)) ⌝ }
 {
-    let mut a = [0u8; 4096];
-    let mut b = [0u8; 4096];
-    let mut f = [0u8; 4096];
-    let mut g = [0u8; 4096];
+    let mut a = [0u8; window::ROW];
+    let mut b = [0u8; window::ROW];
+    let mut f = [0u8; window::ROW];
+    let mut g = [0u8; window::ROW];
     let k = 4 * (rect.right - rect.left);
     paint_rows(
         workspace,

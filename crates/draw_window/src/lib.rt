@@ -1,5 +1,6 @@
 // What steps that look around have in common: how much of a line their results look at. The crate's laws say that it is enough.
 ghost use Prim.Native.Nat.{_-_, _≤_, _<_};
+ghost use Rattle.window.specs.Limits.{longestSide};
 ghost use Rattle.draw_window.specs.Reached.{Reached};
 use window::less;
 use window::lesser;
@@ -12,7 +13,7 @@ pub struct Span {
 
 // All that the places from .. to - 1 of a line of n places look at, up to `back` places before each and `ahead` behind it.
 pub fn reached(n: usize, from: usize, to: usize, back: usize, ahead: usize) -> Span
-    requires { ⌜ (from < to) × (to ≤ n) × (n ≤ 1024) × (ahead ≤ 1024) ⌝ }
+    requires { ⌜ (from < to) × (to ≤ n) × (n ≤ longestSide) × (ahead ≤ longestSide) ⌝ }
     ensures { λ r. ⌜ Reached n from to back ahead (r .from) (r .to) ⌝ }
 {
     Span {

@@ -1,7 +1,7 @@
 // The passes of a blur, and rows to and from lines.
 ghost use Prim.Native.Nat.{ℕ, _+_, _*_, _≤_, _<_};
 ghost use lib.ListN.{length};
-ghost use Rattle.window.specs.Store.{byteAt};
+ghost use Rattle.window.specs.Store.{byteAt, WorkBuffer};
 ghost use Rattle.window.specs.Ranges.{Apart};
 ghost use Rattle.raster_blur.specs.Place.{Rows};
 ghost use Rattle.raster_blur.specs.Blurred.{Blurred};
@@ -19,6 +19,7 @@ pub extern "C" fn twillgoose_kernel_blur_lines(
     requires { ⌜ (a + count * n ≤ length (now buf)) × (b + count * n ≤ length (now buf)) × Apart a (count * n) b (count * n) ⌝ }
     requires { ⌜ (n ≤ length (now sums)) × (count ≤ 65536) × (2 ≤ d) × (d ≤ 60) ⌝ }
     ensures { λ _. ⌜ Blurred d a b n count (now (buf .entry)) (now (buf .exit)) ⌝ }
+    ensures { λ _. ⌜ WorkBuffer (now (sums .entry)) (now (sums .exit)) ⌝ }
 {
     raster_blur::blur::blur_lines(buf, a, b, n, count, d, sums);
 }

@@ -7,6 +7,7 @@ ghost use Rattle.pixel.specs.Bytes.{pixelAt, Painted, ValidRow};
 ghost use Rattle.pixel.specs.Matrix.{transformed, saturation, luminance};
 ghost use Rattle.pixel.specs.Coefficient.{AllowedArithmetic, AllowedMatrix};
 ghost use Rattle.raster_color.specs.Tables.{Combines, Mixes, Unpremultiplies, Weighs};
+ghost use Rattle.window.specs.Limits.{longestSide};
 ghost use Rattle.kernels.specs.Named.{arithmetic};
 use number::Fixed;
 use pixel::Arithmetic;
@@ -103,7 +104,7 @@ pub extern "C" fn twillgoose_kernel_saturate_row(
     n: usize,
 )
     requires { ⌜ (s ≤ 65536) × Mixes (saturation s) (now table) × Unpremultiplies (now inverse) × ValidRow (now src) n ⌝ }
-    requires { ⌜ (n ≤ 1024) × (length (now src) ≡ 4 * n) × (length (now dst) ≡ 4 * n) ⌝ }
+    requires { ⌜ (n ≤ longestSide) × (length (now src) ≡ 4 * n) × (length (now dst) ≡ 4 * n) ⌝ }
     ensures { λ _. ⌜ Painted (λ x. transformed (saturation s) (pixelAt (now (src .entry)) (4 * x))) 0 0 n (now (dst .entry)) (now (dst .exit)) ⌝ }
 {
     raster_color::matrix::matrix_row(saturation_of(s), table, inverse, src, dst, n);

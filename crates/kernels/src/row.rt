@@ -5,6 +5,7 @@ ghost use lib.ListN.{length, replicate};
 ghost use Rattle.pixel.specs.Alpha.{pixel};
 ghost use Rattle.pixel.specs.Bytes.{pixelAt, Painted, firstInvalid};
 ghost use Rattle.raster.specs.Row.{alphaOnly, moved};
+ghost use Rattle.window.specs.Limits.{longestSide};
 use pixel::Pixel;
 
 #[no_mangle]
@@ -48,8 +49,8 @@ pub extern "C" fn twillgoose_kernel_shift_row(
     from: usize,
     to: usize,
 )
-    requires { ⌜ (4 * w ≤ length (now src)) × (w ≤ 1024) × (right ≤ 1024) × (left ≤ 1024) ⌝ }
-    requires { ⌜ (from ≤ to) × (to ≤ 1024) × (4 * to ≤ length (now dst)) ⌝ }
+    requires { ⌜ (4 * w ≤ length (now src)) × (w ≤ longestSide) × (right ≤ longestSide) × (left ≤ longestSide) ⌝ }
+    requires { ⌜ (from ≤ to) × (to ≤ longestSide) × (4 * to ≤ length (now dst)) ⌝ }
     ensures { λ _. ⌜ Painted (moved (now (src .entry)) w right left) 0 from to (now (dst .entry)) (now (dst .exit)) ⌝ }
 {
     raster::row::shift_row(src, w, right, left, dst, from, to);

@@ -2,7 +2,7 @@
 pub mod steps;
 
 ghost use mathlib.Core.Path.{_≡_};
-ghost use lib.ListN.{length};
+ghost use Rattle.window.specs.Store.{WorkBuffer};
 ghost use Rattle.filter.specs.Rect.{canvasOf, boundsOf};
 ghost use Rattle.filter.specs.Layers.{count as countOf};
 ghost use Rattle.filter.specs.Steps.{effectsOf};
@@ -22,7 +22,8 @@ pub fn render_layers(
     sheet: Sheet,
 )
     requires { ⌜ Ready w h (sheet .steps) (sheet .count) (now source) (now workspace) (now scratch) ⌝ }
-    ensures { λ _. ⌜ Holds w h (sheet .count) (now (workspace .exit)) (layersOf w h (sheet .steps) (sheet .count) (now (source .entry))) × (length (now (scratch .exit)) ≡ length (now (scratch .entry))) ⌝ }
+    ensures { λ _. ⌜ Holds w h (sheet .count) (now (workspace .exit)) (layersOf w h (sheet .steps) (sheet .count) (now (source .entry))) ⌝ }
+    ensures { λ _. ⌜ WorkBuffer (now (scratch .entry)) (now (scratch .exit)) ⌝ }
 {
     let count = sheet.count;
     for n in 0..count {
@@ -42,7 +43,9 @@ pub fn redraw_layers(
     named: Region,
 ) -> usize
     requires { ⌜ Ready w h (sheet .steps) (sheet .count) (now source) (now workspace) (now scratch) × ValidLayers w h (sheet .count) (now workspace) × OnCanvas w h named ⌝ }
-    ensures { λ c. ⌜ (c ≡ countOf (canvasOf w h) (effectsOf w h (sheet .steps)) (boundsOf named) (sheet .count)) × Holds w h (sheet .count) (now (workspace .exit)) (redrawnOf w h (sheet .steps) (sheet .count) (boundsOf named) (now (workspace .entry)) (now (source .entry))) × (length (now (scratch .exit)) ≡ length (now (scratch .entry))) ⌝ }
+    ensures { λ c. ⌜ c ≡ countOf (canvasOf w h) (effectsOf w h (sheet .steps)) (boundsOf named) (sheet .count) ⌝ }
+    ensures { λ _. ⌜ Holds w h (sheet .count) (now (workspace .exit)) (redrawnOf w h (sheet .steps) (sheet .count) (boundsOf named) (now (workspace .entry)) (now (source .entry))) ⌝ }
+    ensures { λ _. ⌜ WorkBuffer (now (scratch .entry)) (now (scratch .exit)) ⌝ }
 {
     let layers = sheet.count;
     let damages = plan::damage::damages(w, h, sheet, named);

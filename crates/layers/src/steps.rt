@@ -2,6 +2,7 @@
 ghost use mathlib.Core.Path.{_≡_};
 ghost use Prim.Native.Nat.{ℕ, _*_};
 ghost use lib.ListN.{length};
+ghost use Rattle.window.specs.Store.{WorkBuffer};
 ghost use Rattle.filter.specs.Rect.{In, canvasOf};
 ghost use Rattle.filter.specs.Picture.{patch};
 ghost use Rattle.filter.specs.Layers.{result, bounds as boundsOn};
@@ -28,7 +29,8 @@ pub fn render_step(
     step: Step,
 )
     requires { ⌜ Sized w h n (now source) (now workspace) × (length (now scratch) ≡ 2 * size w h) × ValidInputs n (stands w h (now source) (now workspace)) × AcceptedStep w h n step ⌝ }
-    ensures { λ _. ⌜ Stood w h n (result (canvasOf w h) (effectOf w h step) (stands w h (now (source .entry)) (now (workspace .entry)))) (now (workspace .entry)) (now (workspace .exit)) × (length (now (scratch .exit)) ≡ length (now (scratch .entry))) ⌝ }
+    ensures { λ _. ⌜ Stood w h n (result (canvasOf w h) (effectOf w h step) (stands w h (now (source .entry)) (now (workspace .entry)))) (now (workspace .entry)) (now (workspace .exit)) ⌝ }
+    ensures { λ _. ⌜ WorkBuffer (now (scratch .entry)) (now (scratch .exit)) ⌝ }
 {
     let primitive = resolve(step);
     let region = bounds(step.region);
@@ -48,7 +50,8 @@ pub fn redraw_step(
     rect: Rect,
 )
     requires { ⌜ Sized w h n (now source) (now workspace) × (length (now scratch) ≡ 2 * size w h) × ValidInputs n (stands w h (now source) (now workspace)) × AcceptedStep w h n step × ((x y : ℕ) → In rect x y → In (boundsOn (canvasOf w h) (effectOf w h step)) x y) × Within w h rect ⌝ }
-    ensures { λ _. ⌜ Stood w h n (patch rect (result (canvasOf w h) (effectOf w h step) (stands w h (now (source .entry)) (now (workspace .entry)))) (read w h (now (workspace .entry)) (n * size w h))) (now (workspace .entry)) (now (workspace .exit)) × (length (now (scratch .exit)) ≡ length (now (scratch .entry))) ⌝ }
+    ensures { λ _. ⌜ Stood w h n (patch rect (result (canvasOf w h) (effectOf w h step) (stands w h (now (source .entry)) (now (workspace .entry)))) (read w h (now (workspace .entry)) (n * size w h))) (now (workspace .entry)) (now (workspace .exit)) ⌝ }
+    ensures { λ _. ⌜ WorkBuffer (now (scratch .entry)) (now (scratch .exit)) ⌝ }
 {
     draw(workspace, source, scratch, w, h, n, resolve(step), rect);
 }

@@ -1,5 +1,6 @@
 ghost use Prim.Native.Nat.{_+_, _*_, _≤_};
 ghost use lib.ListN.{length};
+ghost use Rattle.window.specs.Store.{WorkBuffer};
 ghost use Rattle.window.specs.Ranges.{Apart};
 ghost use Rattle.raster_blur.specs.Blurred.{Blurred};
 use crate::pass::box_pass;
@@ -17,6 +18,7 @@ pub fn blur_lines(
     requires { ⌜ (a + count * n ≤ length (now buf)) × (b + count * n ≤ length (now buf)) × Apart a (count * n) b (count * n) ⌝ }
     requires { ⌜ (n ≤ length (now sums)) × (count ≤ 65536) × (2 ≤ d) × (d ≤ 60) ⌝ }
     ensures { λ _. ⌜ Blurred d a b n count (now (buf .entry)) (now (buf .exit)) ⌝ }
+    ensures { λ _. ⌜ WorkBuffer (now (sums .entry)) (now (sums .exit)) ⌝ }
 {
     let e = d / 2;
     // an even d's first two boxes are one shorter, each on another side

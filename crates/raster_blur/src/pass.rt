@@ -1,6 +1,6 @@
 ghost use Prim.Native.Nat.{ℕ, _+_, _-_, _*_, _/_, _≤_, _<_};
 ghost use lib.ListN.{length, getD};
-ghost use Rattle.window.specs.Store.{Filled, Lined};
+ghost use Rattle.window.specs.Store.{Filled, Lined, WorkBuffer};
 ghost use Rattle.window.specs.Window.{behind, column, mean};
 ghost use Rattle.window.specs.Ranges.{Apart};
 ghost use Rattle.raster_blur.specs.Running.{columns, Ready, Sums, Advanced};
@@ -135,6 +135,7 @@ pub fn box_pass(
     requires { ⌜ (from + count * n ≤ length (now buf)) × (to + count * n ≤ length (now buf)) × Apart from (count * n) to (count * n) ⌝ }
     requires { ⌜ (n ≤ length (now sums)) × (count ≤ 65536) × (1 ≤ back + ahead) × (back + ahead + 1 ≤ 61) ⌝ }
     ensures { λ _. ⌜ Lined (λ v i. mean back ahead (column (now (buf .entry)) from n count i) v) to n count (now (buf .entry)) (now (buf .exit)) ⌝ }
+    ensures { λ _. ⌜ WorkBuffer (now (sums .entry)) (now (sums .exit)) ⌝ }
 {
     let r = reciprocal_of(back + ahead + 1);
     let p = Pass {

@@ -1,6 +1,6 @@
 ghost use mathlib.Core.Path.{_≡_};
 ghost use Prim.Native.Nat.{_+_, _*_, _/_, _≤_, _<_, _^_};
-ghost use Rattle.raster_blur.specs.Reciprocal.{Divides};
+ghost use Rattle.raster_blur.specs.Reciprocal.{Divides, LargestBelow, ceiling};
 
 // Divides by a product and two shifts.
 pub struct Reciprocal {
@@ -11,7 +11,7 @@ pub struct Reciprocal {
 // The reciprocal of a box's size: 65536 * 2^shift / size rounded up, where 2^shift is the largest power below size.
 pub fn reciprocal_of(size: usize) -> Reciprocal
     requires { ⌜ (2 ≤ size) × (size ≤ 61) ⌝ }
-    ensures { λ r. ⌜ Divides (r .mul) (r .shift) size ⌝ }
+    ensures { λ r. ⌜ (r .mul ≡ ceiling (2 ^ (r .shift) * 65536) size) × LargestBelow (r .shift) size × Divides (r .mul) (r .shift) size ⌝ }
 {
     let mut power: usize = 1;
     let mut shift: u16 = 0;

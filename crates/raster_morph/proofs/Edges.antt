@@ -1,5 +1,5 @@
 -- The window of the definition, which reads 0 outside the lines, and the window cut at their ends. Assumes nothing.
-use mathlib.Core.Path.{_≡_, refl, ap, _∙_}
+use mathlib.Core.Path.{_≡_, ap, _∙_}
 use mathlib.Core.Logic.{⊎-elim}
 use Prim.Native.Nat.{ℕ, _+_, _-_, _≤_, _<_, min, max}
 use native.Mathlib.Omega.{arith}
@@ -12,15 +12,6 @@ use Rattle.raster_morph.specs.declared.Extreme.the-variants.{Least, Larg
 use Rattle.raster_morph.specs.Operation.{operation, start, extreme}
 use Rattle.raster_morph.specs.Growth.{cut, edged}
 use Rattle.raster_morph.proofs.Folds.{Semilattice, fold-absorb, fold-trim}
-
--- the extremes are the least and the largest of `window`
-pub extreme-least : (back ahead : ℕ) (f : ℕ → ℕ) (x : ℕ) → extreme Least back ahead f x ≡ least back ahead f x
-unfolding operation start
-extreme-least back ahead f x = refl
-
-pub extreme-largest : (back ahead : ℕ) (f : ℕ → ℕ) (x : ℕ) → extreme Largest back ahead f x ≡ largest back ahead f x
-unfolding operation start
-extreme-largest back ahead f x = refl
 
 pub min-lattice : Semilattice min
 min-lattice = record { assoc = λ x y z. omega arith; comm = λ x y. omega arith; idem = λ x. omega arith }

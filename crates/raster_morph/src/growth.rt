@@ -15,7 +15,7 @@ pub struct Reach {
 }
 
 // From p back and q ahead on towards `back` and `ahead`: the reach about doubles.
-pub fn stretch(p: usize, q: usize, back: usize, ahead: usize) -> Reach
+fn stretch(p: usize, q: usize, back: usize, ahead: usize) -> Reach
     requires { ⌜ (p ≤ back) × (q ≤ ahead) × (back ≤ 64) × (ahead ≤ 64) ⌝ }
     ensures { λ r. ⌜ Stretch p q back ahead (r .back) (r .ahead) ⌝ }
 {
@@ -28,10 +28,11 @@ pub fn stretch(p: usize, q: usize, back: usize, ahead: usize) -> Reach
 }
 
 // Lines of this many bytes and more grow twice in one pass over them: a picture of such lines does not stay in the cache.
-pub const LONG: usize = 1024;
+const LONG: usize = 1024;
 
-// From the windows at `from` longer ones at `to`. The answer is their reach.
-pub fn widen(
+// From the windows at `from` longer ones at `to`. The answer is their reach; how far it is, within `Towards`, is open: a caller goes on until
+// they reach far enough.
+fn widen(
     op: Extreme,
     buf: &mut [u8],
     from: usize,

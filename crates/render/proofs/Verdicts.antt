@@ -13,6 +13,7 @@ use Rattle.filter.specs.declared.Region.{Region}
 use Rattle.filter.specs.declared.Step.{Step}
 use Rattle.filter.specs.Answers.{accepted?}
 use Rattle.filter.specs.Checks.{unless, orElse, count?, sizesAnswer, rectangleAnswer, stepsAnswer, pixelsAnswer, answerOf, render, redraw}
+use Rattle.filter.specs.Limits.{mostSteps}
 use Rattle.plan.proofs.Acceptance.{accepted-sizes}
 
 -- 14
@@ -47,7 +48,7 @@ module _ (w h : ℕ) (steps : List Step) (count : ℕ) (src ws : List ℕ) (scra
 
   -- 3 is among the first checks already
   pub counted : accepted? sizes ≡ true → unless (count? count) A.StepCount (stepsAnswer w h steps count) ≡ stepsAnswer w h steps count
-  counted e = let k = accepted-sizes w h count (length src) (length ws) scratch e in rw (lt-ltb 0 count (k .some), le-leb count 16 (k .few))
+  counted e = let k = accepted-sizes w h count (length src) (length ws) scratch e in rw (lt-ltb 0 count (k .some), le-leb count mostSteps (k .few))
 
   pub render-sizes : accepted? sizes ≡ false → sizes ≡ answerOf w h steps count render src ws scratch
   unfolding answerOf

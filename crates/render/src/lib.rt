@@ -14,7 +14,7 @@ use plan::answers::is_accepted;
 ghost use mathlib.Core.Path.{_≡_};
 ghost use mathlib.Core.Bool.{true};
 ghost use lib.ListN.{length};
-ghost use Rattle.filter.specs.Answers.{accepted?};
+ghost use Rattle.filter.specs.Answers.{numberOf, placeOf, accepted?};
 ghost use Rattle.filter.specs.Checks.{answerOf, render as rendering, redraw as redrawing};
 ghost use Rattle.render.specs.Promise.{ifAccepted, layerBytes, redrawnBytes, zeros, countOf, Redraws, AllValid};
 
@@ -40,6 +40,8 @@ pub fn render(
     scratch: &mut [u8],
 ) -> Answer
     ensures answers { λ a. ⌜ a ≡ answerOf width height (sheet .steps) (sheet .count) rendering (now (source .entry)) (now (workspace .entry)) (length (now (scratch .entry))) ⌝ }
+    ensures number { λ a. ⌜ numberOf a ≡ numberOf (answerOf width height (sheet .steps) (sheet .count) rendering (now (source .entry)) (now (workspace .entry)) (length (now (scratch .entry)))) ⌝ }
+    ensures place { λ a. ⌜ placeOf a ≡ placeOf (answerOf width height (sheet .steps) (sheet .count) rendering (now (source .entry)) (now (workspace .entry)) (length (now (scratch .entry)))) ⌝ }
     ensures layers { λ a. ⌜ now (workspace .exit) ≡ ifAccepted a (layerBytes width height (sheet .steps) (sheet .count) (now (source .entry))) (now (workspace .entry)) ⌝ }
     ensures cleared { λ a. ⌜ now (scratch .exit) ≡ ifAccepted a (zeros (now (scratch .entry))) (now (scratch .entry)) ⌝ }
     ensures valid { λ a. ⌜ (accepted? a ≡ true → AllValid width height (sheet .count) (now (workspace .exit))) ⌝ }
@@ -64,6 +66,8 @@ pub fn redraw(
     scratch: &mut [u8],
 ) -> Redrawn
     ensures answers { λ r. ⌜ r .answer ≡ answerOf width height (sheet .steps) (sheet .count) (redrawing named) (now (source .entry)) (now (workspace .entry)) (length (now (scratch .entry))) ⌝ }
+    ensures number { λ r. ⌜ numberOf (r .answer) ≡ numberOf (answerOf width height (sheet .steps) (sheet .count) (redrawing named) (now (source .entry)) (now (workspace .entry)) (length (now (scratch .entry)))) ⌝ }
+    ensures place { λ r. ⌜ placeOf (r .answer) ≡ placeOf (answerOf width height (sheet .steps) (sheet .count) (redrawing named) (now (source .entry)) (now (workspace .entry)) (length (now (scratch .entry)))) ⌝ }
     ensures counts { λ r. ⌜ r .count ≡ countOf (r .answer) width height (sheet .steps) (sheet .count) named ⌝ }
     ensures layers { λ r. ⌜ now (workspace .exit) ≡ ifAccepted (r .answer) (redrawnBytes width height (sheet .steps) (sheet .count) named (now (workspace .entry)) (now (source .entry))) (now (workspace .entry)) ⌝ }
     ensures cleared { λ r. ⌜ now (scratch .exit) ≡ ifAccepted (r .answer) (zeros (now (scratch .entry))) (now (scratch .entry)) ⌝ }

@@ -1,2 +1,3 @@
-// What the programs over tables share: fields of a table's line and of a printed line.
+// What the programs over tables share: how a field of a table's line is read, and what a line says of a buffer.
+pub mod content;
 pub mod field;

@@ -7,6 +7,7 @@ use native.Mathlib.Omega.{arith}
 use native.Mathlib.Nat.{add-mul}
 use lib.ListN.{length, take, drop, length-drop}
 use lib.Seq.{length-take-le}
+use Rattle.pixel.proofs.Painting.{pixel-part}
 use Rattle.filter.specs.declared.Step.{Step}
 use Rattle.filter.specs.Rect.{In, canvasOf}
 use Rattle.filter.specs.Bytes.{size, read, bytesOf, layersOf}
@@ -18,7 +19,6 @@ use Rattle.filter.proofs.Concat.{bytes-hold}
 use Rattle.filter.proofs.Demand.{layer-blank}
 use Rattle.filter.proofs.Refusals.{else-accepted}
 use Rattle.plan.proofs.Acceptance.{accepted-sizes}
-use Rattle.stage.proofs.Places.{pixel-part}
 use Rattle.text_print.proofs.Fields.{row-end}
 
 -- an accepted sheet has a step

@@ -8,6 +8,8 @@ use lib.Dec.{eqb, ltb}
 use lib.ListN.{length, getD}
 use borrow.Author.Tests.{ltb-true}
 use Rattle.filter.specs.declared.Sheet.{Sheet}
+use Rattle.filter.specs.Limits.{mostSteps, longestText}
+use Rattle.text_field.specs.Words.{bytes}
 use Rattle.text_field.specs.Split.{split}
 use Rattle.text_field.specs.Field.{same}
 use Rattle.text.specs.Code.{Sized}
@@ -40,23 +42,23 @@ lines-keep good next complete refuse P Q step end bad a n (l ∷ m ∷ ls) p =
     go true q = q
     go false q = bad n
 
--- a document within its bounds, with at most 16 steps
+-- a document within its bounds, with no more steps than a sheet has
 record Bounded (d : Document) : Type 0 where
   sized : Sized d
-  few : d .sheet .count ≤ 16
+  few : d .sheet .count ≤ mostSteps
 
-sheet-few : (p : Sheet) (fs : List (List ℕ)) → p .count ≤ 16 → sheetLine p fs .sheet .count ≤ 16
+sheet-few : (p : Sheet) (fs : List (List ℕ)) → p .count ≤ mostSteps → sheetLine p fs .sheet .count ≤ mostSteps
 unfolding sheetLine
-sheet-few p fs h = go (ltb (p .count) 16) (stepOf fs .good) refl
+sheet-few p fs h = go (ltb (p .count) mostSteps) (stepOf fs .good) refl
   where
-    go : (a b : Bool) → ltb (p .count) 16 ≡ a → cond {A = SheetLine} (a && b) (record { good = true; sheet = pushed p (stepOf fs .step) }) (record { good = false; sheet = p }) .sheet .count ≤ 16
-    go true true e = omega (arith, ltb-true (p .count) 16 e)
+    go : (a b : Bool) → ltb (p .count) mostSteps ≡ a → cond {A = SheetLine} (a && b) (record { good = true; sheet = pushed p (stepOf fs .step) }) (record { good = false; sheet = p }) .sheet .count ≤ mostSteps
+    go true true e = omega (arith, ltb-true (p .count) mostSteps e)
     go true false e = h
     go false b e = h
 
 row-sheet : (d : Document) (fs : List (List ℕ)) → rowOf d fs .document .sheet ≡ d .sheet
 unfolding rowOf
-row-sheet d fs = go (ltb (d .rows) (d .height) && (same (getD fs 0 []) (114 ∷ 111 ∷ 119 ∷ []) && eqb (length fs) (1 + d .width))) (rowPixels d fs .good)
+row-sheet d fs = go (ltb (d .rows) (d .height) && (same (getD fs 0 []) (bytes "row") && eqb (length fs) (1 + d .width))) (rowPixels d fs .good)
   where
     go : (a b : Bool) → cond {A = Extended} a (cond {A = Extended} b (changed (withRow d (rowPixels d fs .pixels))) (unchanged d)) (unchanged d) .document .sheet ≡ d .sheet
     go true true = refl
@@ -67,7 +69,7 @@ bounded-line : (d : Document) (fs : List (List ℕ)) → Bounded d → Bounded (
 unfolding lineOf
 bounded-line d fs B = record { sized = sized-line d fs (B .sized); few = go (eqb (d .rows) 0 && sheetLine (d .sheet) fs .good) }
   where
-    go : (b : Bool) → cond {A = Extended} b (changed (withSheet d (sheetLine (d .sheet) fs .sheet))) (rowOf d fs) .document .sheet .count ≤ 16
+    go : (b : Bool) → cond {A = Extended} b (changed (withSheet d (sheetLine (d .sheet) fs .sheet))) (rowOf d fs) .document .sheet .count ≤ mostSteps
     go true = sheet-few (d .sheet) fs (B .few)
     go false = rw (row-sheet d fs) (B .few)
 
@@ -97,7 +99,7 @@ lines-within (l ∷ m ∷ ls) = go (canvasOf (split 9 l) .good) refl
 
 pub reading-within : (s : List ℕ) → Within (readingOf s)
 unfolding readingOf
-reading-within s = go (ltb 32768 (length s))
+reading-within s = go (ltb longestText (length s))
   where
     go : (b : Bool) → Within (cond {A = Reading} b (refused 0) (textLines (split 10 s)))
     go true = refused-within 0

@@ -7,21 +7,23 @@ use native.Mathlib.Omega.{arith}
 use lib.ListN.{length, take, replicate, length-replicate}
 use Rattle.filter.specs.Picture.{Picture}
 use Rattle.filter.specs.Bytes.{size}
+use Rattle.filter.specs.Limits.{mostSteps, longestTextSide, textPicture}
+use Rattle.text_answer.specs.Answer.{longest}
 use Rattle.text_print.specs.Output.{okText, refusedText}
 use Rattle.text_print.proofs.Fields.{ok-length, lines-length, refused-length}
 use Rattle.text_print.proofs.ReadBack.{decimal-few}
 
-pub size-le : (w h : ℕ) {k : ℕ} → k ≡ size w h → w ≤ 16 → h ≤ 16 → k ≤ 1024
+pub size-le : (w h : ℕ) {k : ℕ} → k ≡ size w h → w ≤ longestTextSide → h ≤ longestTextSide → k ≤ textPicture
 size-le w h e a b = omega (arith, mul-le-mul-right h a)
 
-pub layers-le : (n k : ℕ) → n ≤ 16 → k ≤ 1024 → n * k ≤ 16384
+pub layers-le : (n k : ℕ) → n ≤ mostSteps → k ≤ textPicture → n * k ≤ mostSteps * textPicture
 layers-le n k a b = omega (arith, mul-le-mul-right k a)
 
--- what is printed has room in 4,096 bytes
-pub ok-room : (w h : ℕ) (p : Picture) (n : ℕ) → w ≤ 16 → h ≤ 16 → n ≡ 4096 → 0 + length (okText w h p) ≤ n
+-- what is printed has room
+pub ok-room : (w h : ℕ) (p : Picture) (n : ℕ) → w ≤ longestTextSide → h ≤ longestTextSide → n ≡ longest → 0 + length (okText w h p) ≤ n
 ok-room w h p n a b e = omega (arith, ok-length w h p, lines-length w h p, mul-le-mul-right (9 * w + 4) b)
 
-pub refused-room : (number place n : ℕ) → number < 18446744073709551616 → place < 18446744073709551616 → n ≡ 4096 → 0 + length (refusedText number place) ≤ n
+pub refused-room : (number place n : ℕ) → number < 18446744073709551616 → place < 18446744073709551616 → n ≡ longest → 0 + length (refusedText number place) ≤ n
 refused-room number place n a b e = omega (arith, refused-length number place, decimal-few 19 number (omega arith), decimal-few 19 place (omega arith))
 
 pub take-zeros : (n m : ℕ) → n ≤ m → take {A = ℕ} n (replicate m 0) ≡ replicate n 0

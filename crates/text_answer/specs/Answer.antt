@@ -20,6 +20,10 @@ answered w h s src = answerOf w h (s .steps) (s .count) render src (replicate (s
 abbrev pub lastLayer : ℕ → ℕ → Sheet → List ℕ → Picture
 lastLayer w h s src = layersOf w h (s .steps) (s .count) src (s .count - 1)
 
+-- no answer is longer: `ok` and sixteen rows of sixteen pixels, each line with its line feed
+abbrev pub longest : ℕ
+longest = 2371
+
 -- "`ok` and the last layer as `row` lines, or one line: `refused`, number, place"
 unfoldable pub answerText : A.Answer → ℕ → ℕ → Picture → List ℕ
 answerText a w h p = cond (accepted? a) (okText w h p) (refusedText (numberOf a) (placeOf a))

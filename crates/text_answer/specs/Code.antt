@@ -3,10 +3,11 @@ use mathlib.Core.Path.{_≡_}
 use Prim.Native.Nat.{_≤_}
 use lib.ListN.{length}
 use Rattle.text.specs.declared.Reading.{Reading}
+use Rattle.filter.specs.Limits.{mostSteps, longestTextSide, textPicture}
 
 -- every reading is within these bounds
 pub record Within (r : Reading) : Type 0 where
-  pub wide : r .width ≤ 16
-  pub high : r .height ≤ 16
-  pub few : r .sheet .count ≤ 16
-  pub pixels : length (r .pixels) ≡ 1024
+  pub wide : r .width ≤ longestTextSide
+  pub high : r .height ≤ longestTextSide
+  pub few : r .sheet .count ≤ mostSteps
+  pub pixels : length (r .pixels) ≡ textPicture

@@ -15,6 +15,7 @@ use Rattle.filter.specs.Steps as S
 use Rattle.filter.specs.Bytes as B
 use Rattle.filter.specs.Answers.{accepted?}
 use Rattle.filter.specs.Checks as C
+use Rattle.text_field.specs.Words.{bytes}
 use Rattle.text_field.specs.Split as T
 use Rattle.text_field.specs.Field as F
 use Rattle.text.specs.Many as M
@@ -28,16 +29,13 @@ use Rattle.text_print.specs.Digits.{digit, shortest, decimal, hexByte, hexPixel
 use Rattle.text_print.specs.Output.{line, listed, rowFields, rowLines, okText, refusedText}
 use Rattle.text_answer.specs.Answer.{answerText, sheetText, readingText, printedOf}
 
--- blur 0 0 2 1 src -4 0
 abbrev pub blurLine : List ℕ
-blurLine = 98 ∷ 108 ∷ 117 ∷ 114 ∷ 9 ∷ 48 ∷ 9 ∷ 48 ∷ 9 ∷ 50 ∷ 9 ∷ 49 ∷ 9 ∷ 115 ∷ 114 ∷ 99 ∷ 9 ∷ 45 ∷ 52 ∷ 9 ∷ 48 ∷ 10 ∷ []
+blurLine = bytes "blur\t0\t0\t2\t1\tsrc\t-4\t0\n"
 
 pub record Printed : Type 0 where
-  -- ok, row 80007fff 00000080
   pub paper :
       printedOf example
-      ≡ 111 ∷ 107 ∷ 10 ∷ 114 ∷ 111 ∷ 119 ∷ 9 ∷ 56 ∷ 48 ∷ 48 ∷ 48 ∷ 55 ∷ 102 ∷ 102 ∷ 102 ∷ 9 ∷ 48 ∷ 48 ∷ 48 ∷ 48 ∷ 48 ∷ 48 ∷ 56 ∷ 48 ∷ 10 ∷ []
-  -- refused 15 1, refused 3 0, refused 9 0
+      ≡ bytes "ok\nrow\t80007fff\t00000080\n"
   pub nothing : printedOf [] ≡ refusedText 15 1
   pub stepless : printedOf (canvasLine ++ rowLine) ≡ refusedText 3 0
   pub minus : printedOf (canvasLine ++ (blurLine ++ rowLine)) ≡ refusedText 9 0

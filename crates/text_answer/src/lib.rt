@@ -19,25 +19,29 @@ ghost use lib.ListN.{length, replicate};
 ghost use Rattle.filter.specs.Bytes.{size, read as picture, bytesOf, layersOf};
 ghost use Rattle.filter.specs.Answers.{accepted?};
 ghost use Rattle.filter.specs.Checks.{answerOf, render as rendering};
+ghost use Rattle.filter.specs.Limits.{mostSteps, longestTextSide};
 ghost use Rattle.text.specs.Many.{stored};
 ghost use Rattle.text_print.specs.Code.{Put};
-ghost use Rattle.text_answer.specs.Answer.{answerText, sheetText, readingText, printedOf};
+ghost use Rattle.text_answer.specs.Answer.{longest, answerText, sheetText, readingText, printedOf};
 ghost use Rattle.text_answer.specs.Code.{Within};
+
+// No answer is longer: `ok` and sixteen rows of sixteen pixels.
+pub const LONGEST: usize = 2371;
 
 // A full render with a scratch buffer of its own.
 fn draw(width: usize, height: usize, sheet: Sheet, source: &[u8], workspace: &mut [u8]) -> Answer
-    requires { ⌜ (width ≤ 16) × (height ≤ 16) ⌝ }
+    requires { ⌜ (width ≤ longestTextSide) × (height ≤ longestTextSide) ⌝ }
     ensures { λ a. ⌜ a ≡ answerOf width height (sheet .steps) (sheet .count) rendering (now (source .entry)) (now (workspace .entry)) (2 * size width height) ⌝ }
     ensures { λ a. ⌜ now (workspace .exit) ≡ cond (accepted? a) (bytesOf width height (sheet .count) (layersOf width height (sheet .steps) (sheet .count) (now (source .entry)))) (now (workspace .entry)) ⌝ }
 {
-    let mut scratch = [0u8; 2048];
+    let mut scratch = [0u8; 2 * Sheet::TEXT_PICTURE];
     let n = 2 * picture_size(width, height);
     render(width, height, sheet, source, workspace, &mut scratch[..n])
 }
 
 // The last of `count` layers.
 fn last_layer(width: usize, height: usize, count: usize, workspace: &[u8]) -> &[u8]
-    requires { ⌜ (width ≤ 16) × (height ≤ 16) × (0 < count) × (length (now workspace) ≡ count * size width height) ⌝ }
+    requires { ⌜ (width ≤ longestTextSide) × (height ≤ longestTextSide) × (0 < count) × (length (now workspace) ≡ count * size width height) ⌝ }
     ensures { λ r. ⌜ length (now r) ≡ size width height ⌝ }
     ensures { λ r. ⌜ picture width height (now r) 0 ≡ picture width height (now (workspace .entry)) ((count - 1) * size width height) ⌝ }
 {
@@ -54,7 +58,7 @@ fn print_answer(
     workspace: &[u8],
     out: &mut [u8],
 ) -> usize
-    requires { ⌜ (width ≤ 16) × (height ≤ 16) × (length (now workspace) ≡ count * size width height) × (length (now out) ≡ 4096) ⌝ }
+    requires { ⌜ (width ≤ longestTextSide) × (height ≤ longestTextSide) × (length (now workspace) ≡ count * size width height) × (length (now out) ≡ longest) ⌝ }
     requires { ⌜ (accepted? answer ≡ true → 0 < count) ⌝ }
     ensures { λ r. ⌜ Put (answerText answer width height (picture width height (now (workspace .entry)) ((count - 1) * size width height))) 0 (now (out .entry)) (now (out .exit)) r ⌝ }
 {
@@ -74,7 +78,7 @@ fn print_drawn(
     workspace: &mut [u8],
     out: &mut [u8],
 ) -> usize
-    requires { ⌜ (width ≤ 16) × (height ≤ 16) × (now workspace ≡ replicate (sheet .count * size width height) 0) × (length (now out) ≡ 4096) ⌝ }
+    requires { ⌜ (width ≤ longestTextSide) × (height ≤ longestTextSide) × (now workspace ≡ replicate (sheet .count * size width height) 0) × (length (now out) ≡ longest) ⌝ }
     ensures { λ r. ⌜ Put (sheetText width height sheet (now (source .entry))) 0 (now (out .entry)) (now (out .exit)) r ⌝ }
 {
     let answer = draw(width, height, sheet, source, workspace);
@@ -82,16 +86,16 @@ fn print_drawn(
 }
 
 fn print_sheet(width: usize, height: usize, sheet: Sheet, source: &[u8], out: &mut [u8]) -> usize
-    requires { ⌜ (width ≤ 16) × (height ≤ 16) × (sheet .count ≤ 16) × (length (now out) ≡ 4096) ⌝ }
+    requires { ⌜ (width ≤ longestTextSide) × (height ≤ longestTextSide) × (sheet .count ≤ mostSteps) × (length (now out) ≡ longest) ⌝ }
     ensures { λ r. ⌜ Put (sheetText width height sheet (now (source .entry))) 0 (now (out .entry)) (now (out .exit)) r ⌝ }
 {
-    let mut workspace = [0u8; 16384];
+    let mut workspace = [0u8; Sheet::STEPS * Sheet::TEXT_PICTURE];
     let n = sheet.count * picture_size(width, height);
     print_drawn(width, height, sheet, source, &mut workspace[..n], out)
 }
 
 fn print_reading(reading: Reading, out: &mut [u8]) -> usize
-    requires { ⌜ Within reading × (length (now out) ≡ 4096) ⌝ }
+    requires { ⌜ Within reading × (length (now out) ≡ longest) ⌝ }
     ensures { λ r. ⌜ Put (readingText reading) 0 (now (out .entry)) (now (out .exit)) r ⌝ }
 {
     if !reading.good {
@@ -105,14 +109,14 @@ fn print_reading(reading: Reading, out: &mut [u8]) -> usize
     print_sheet(width, height, sheet, &pixels[..n], out)
 }
 
-// What `sheet` prints for a text. The answer is its length, never above 4,096; it is stored at the start of `out` where that is long enough,
+// What `sheet` prints for a text. The answer is its length, at most 2,371; it is stored at the start of `out` where that is long enough,
 // and else `out` is left as it was.
 pub fn answer(text: &[u8], out: &mut [u8]) -> usize
-    ensures { λ r. ⌜ r ≡ length (printedOf (now (text .entry))) ⌝ }
-    ensures { λ r. ⌜ r ≤ 4096 ⌝ }
-    ensures { λ _. ⌜ now (out .exit) ≡ cond (leb (length (printedOf (now (text .entry)))) (length (now (out .entry)))) (stored (now (out .entry)) 0 (printedOf (now (text .entry)))) (now (out .entry)) ⌝ }
+    ensures long { λ r. ⌜ r ≡ length (printedOf (now (text .entry))) ⌝ }
+    ensures enough { λ r. ⌜ r ≤ longest ⌝ }
+    ensures printed { λ _. ⌜ now (out .exit) ≡ cond (leb (length (printedOf (now (text .entry)))) (length (now (out .entry)))) (stored (now (out .entry)) 0 (printedOf (now (text .entry)))) (now (out .entry)) ⌝ }
 {
-    let mut printed = [0u8; 4096];
+    let mut printed = [0u8; LONGEST];
     let n = print_reading(read(text), &mut printed);
     if n <= out.len() {
         put_word(out, 0, &printed[..n]);

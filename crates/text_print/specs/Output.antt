@@ -1,6 +1,7 @@
 -- The lines that are printed. Assumes nothing.
 use mathlib.Core.List.{List, [], _∷_, _++_}
 use Prim.Native.Nat.{ℕ, zero, suc}
+use Rattle.text_field.specs.Words.{bytes}
 use Rattle.text_field.specs.Split.{join}
 use Rattle.pixel.specs.declared.Pixel.{Pixel}
 use Rattle.filter.specs.Picture.{Picture}
@@ -9,13 +10,13 @@ use Rattle.text_print.specs.Digits.{decimal, hexPixel}
 
 -- `ok`, `refused`, `row`
 abbrev pub okWord : List ℕ
-okWord = 111 ∷ 107 ∷ []
+okWord = bytes "ok"
 
 abbrev pub refusedWord : List ℕ
-refusedWord = 114 ∷ 101 ∷ 102 ∷ 117 ∷ 115 ∷ 101 ∷ 100 ∷ []
+refusedWord = bytes "refused"
 
 abbrev pub rowWord : List ℕ
-rowWord = 114 ∷ 111 ∷ 119 ∷ []
+rowWord = bytes "row"
 
 -- "fields parted by one tab, each line closed by a line feed"
 unfoldable pub line : List (List ℕ) → List ℕ

@@ -11,6 +11,7 @@ use Rattle.window.proofs.Numbers.{area-le}
 use Rattle.stage.proofs.Read.{stands-blank}
 use Rattle.draw_window.specs.Passes.{acrossOf}
 use Rattle.draw_window.proofs.Strips.{strip-none, reached-in, strip-area}
+use Rattle.filter.specs.Limits.{longestSide, mostPixels}
 use Rattle.draw_blur.specs.Blurs.{blurs}
 use Rattle.draw_blur.proofs.Blurs.{blurs-banded}
 use Rattle.draw_blur.proofs.Turning.{lanes-worked, strip-gathered, rows-room}
@@ -19,7 +20,7 @@ use Rattle.draw_blur.proofs.blur_across.Tie as tie
 
 abbrev Inv-loop : tie.InvT-loop
 Inv-loop workspace source scratch₀ w h n input d left right top bottom width reach span places skip tile₀ sums₀ y₀ scratch tile sums y =
-    (top ≤ y) × (y ≤ bottom) × (length tile ≡ 65536) × (length sums ≡ 32) × (length scratch ≡ length scratch₀)
+    (top ≤ y) × (y ≤ bottom) × (length tile ≡ 64 * longestSide) × (length sums ≡ 32) × (length scratch ≡ length scratch₀)
     × Strip (acrossOf (blurs d) w (stands w h source workspace input)) 0 left right top y scratch
 
 abbrev μ-loop : tie.MeasureT-loop
@@ -53,7 +54,7 @@ module _ (g : tie.After-lesser Inv-loop μ-loop) where
   room : 4 * ((y - t .args .strip .top) * (t .args .strip .right - t .args .strip .left) + g .lesser .result * (t .args .strip .right - t .args .strip .left)) ≤ length (g .before .before .loop .scratch)
   room = omega (arith, t .pre .1 .4, g .before .before .loop .inv .4, rows-room y (t .args .strip .top) (t .args .strip .bottom) (g .lesser .result) (t .args .strip .right - t .args .strip .left) (g .before .before .loop .inv .0) fits)
 
-  small : (y - t .args .strip .top) * (t .args .strip .right - t .args .strip .left) ≤ 1048576
+  small : (y - t .args .strip .top) * (t .args .strip .right - t .args .strip .left) ≤ mostPixels
   small = omega (arith, strip-area (t .args .w) (t .args .h) (t .args .strip .left) (t .args .strip .right) (t .args .strip .top) y (t .pre .1 .1) (omega (arith, fits, t .pre .1 .3)), area-le (t .args .w) (t .args .h) (t .pre .0 .0 .wide) (t .pre .0 .0 .high))
 
 sub-width : tie.Need-sub-width Inv-loop μ-loop
@@ -148,7 +149,7 @@ loop-again c =
     let L = g .before .before .loop in
     let a = t g .args in
     let B = blurs-banded (a .d) _ (r g .before .spread-of .ensures .0) in
-    let K = lanes-worked _ _ _ _ _ _ (stands-blank (a .w) (a .h) (a .source .now) (a .workspace .now) (a .input)) B _ _ _ _ _ _ _ _ _ (r g .reached .ensures) (t g .pre .1 .1) (few g) (q .spread-rows .ensures) (p .pass-lines .ensures .0) in (
+    let K = lanes-worked _ _ _ _ _ _ (stands-blank (a .w) (a .h) (a .source .now) (a .workspace .now) (a .input)) B _ _ _ _ _ _ _ _ _ (r g .reached .ensures) (t g .pre .1 .1) (few g) (q .spread-rows .ensures .lanes) (p .pass-lines .ensures .0) in (
       omega (arith, L .inv .0),
       fits g,
       search needs,

@@ -14,10 +14,10 @@ use Rattle.draw_blur.proofs.draw_blur.Statement.{statement}
 use Rattle.draw_blur.proofs.draw_blur.Tie as tie
 
 returns : tie.Need-returns
-returns c = (drawn-none _ _ _ _ _ _ (λ x y i. absurd (omega (arith, i .left, i .right))), refl)
+returns c = (drawn-none _ _ _ _ _ _ (λ x y i. absurd (omega (arith, i .left, i .right))), record { long = refl })
 
 returns-2 : tie.Need-returns-2
-returns-2 c = (drawn-none _ _ _ _ _ _ (λ x y i. absurd (omega (arith, i .top, i .bottom))), refl)
+returns-2 c = (drawn-none _ _ _ _ _ _ (λ x y i. absurd (omega (arith, i .top, i .bottom))), record { long = refl })
 
 spread-of-requires : tie.Need-spread-of-requires
 spread-of-requires c κs = search needs

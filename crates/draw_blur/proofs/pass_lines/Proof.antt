@@ -20,7 +20,7 @@ same-length-2 : tie.Need-same-length-2
 same-length-2 c = search needs
 
 returns-2 : tie.Need-returns-2
-returns-2 c = (worked-passes _ _ _ _ _ _ (c .before .before .before .before .blur-lines .ensures), inr refl)
+returns-2 c = (worked-passes _ _ _ _ _ _ (c .before .before .before .before .blur-lines .ensures .0), inr refl)
 
 pub pass-lines-spec : {M : Type 1} → statement M
 pass-lines-spec =

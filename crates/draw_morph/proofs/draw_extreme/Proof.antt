@@ -13,10 +13,10 @@ use Rattle.draw_morph.proofs.draw_extreme.Statement.{statement}
 use Rattle.draw_morph.proofs.draw_extreme.Tie as tie
 
 returns : tie.Need-returns
-returns c = (drawn-none _ _ _ _ _ _ (λ x y i. absurd (omega (arith, i .left, i .right))), refl)
+returns c = (drawn-none _ _ _ _ _ _ (λ x y i. absurd (omega (arith, i .left, i .right))), record { long = refl })
 
 returns-2 : tie.Need-returns-2
-returns-2 c = (drawn-none _ _ _ _ _ _ (λ x y i. absurd (omega (arith, i .top, i .bottom))), refl)
+returns-2 c = (drawn-none _ _ _ _ _ _ (λ x y i. absurd (omega (arith, i .top, i .bottom))), record { long = refl })
 
 radius-window-requires : tie.Need-radius-window-requires
 radius-window-requires c κs = search needs

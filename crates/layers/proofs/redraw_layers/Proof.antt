@@ -75,7 +75,7 @@ loop-again c =
     let done = c .before .before .before .before .redraw-step .ensures in (
       omega arith,
       λ r p. redrawing-more (a .w) (a .h) (a .t6 .steps) (a .t6 .count) r (a .source .now) (a .workspace .now) (a .scratch .now) (s .pre .0)
-          (L .n) l (L .workspace) (L .scratch) (L .inv .1 r p) _ (step-at (a .t6) _ own (L .n) _ (omega arith)) _ (p (L .n)) _ _ (done .0) (done .1),
+          (L .n) l (L .workspace) (L .scratch) (L .inv .1 r p) _ (step-at (a .t6) _ own (L .n) _ (omega arith)) _ (p (L .n)) _ _ (done .0) (done .1 .long),
     )
 
 same-length : tie.Need-same-length Inv-loop μ-loop
@@ -91,7 +91,7 @@ returns c =
     let D = c .before .before .before .damages .ensures in
     let e : L .n ≡ s .args .t6 .count = omega arith in
     let G = rw e at (L .inv .1 (boundsOf (s .args .named)) (D .0)) in
-    (D .1 .0, redrawing-holds _ _ _ _ _ _ _ _ _ _ (s .pre .0 .workspace) G, G .scratch)
+    (D .1 .0, (redrawing-holds _ _ _ _ _ _ _ _ _ _ (s .pre .0 .workspace) G, record { long = G .scratch }))
 
 pub redraw-layers-spec : {M : Type 1} → statement M
 redraw-layers-spec =

@@ -52,7 +52,7 @@ loop-again c =
     let done = c .before .before .before .before .render-step .ensures in (
       omega arith,
       rendering-more (a .w) (a .h) (a .t6 .steps) (a .t6 .count) (a .source .now) (a .workspace .now) (a .scratch .now) (s .pre)
-          (L .n) l (L .workspace) (L .scratch) (L .inv .1) _ (step-at (a .t6) _ own (L .n) _ (omega arith)) _ _ (done .0) (done .1),
+          (L .n) l (L .workspace) (L .scratch) (L .inv .1) _ (step-at (a .t6) _ own (L .n) _ (omega arith)) _ _ (done .0) (done .1 .long),
     )
 
 same-length : tie.Need-same-length Inv-loop μ-loop
@@ -67,7 +67,7 @@ returns c =
     let L = c .before .loop in
     let e : L .n ≡ s .args .t6 .count = omega arith in
     let G = rw e at (L .inv .1) in
-    (rendering-holds _ _ _ _ _ _ _ _ _ (s .pre .workspace) G, G .scratch)
+    (rendering-holds _ _ _ _ _ _ _ _ _ (s .pre .workspace) G, record { long = G .scratch })
 
 pub render-layers-spec : {M : Type 1} → statement M
 render-layers-spec =

@@ -3,7 +3,8 @@ use mathlib.Core.Path.{_≡_, refl, sym, ap, _∙_}
 use mathlib.Core.Bool.{true, false, false≢true}
 use Prim.Native.Nat.{ℕ}
 use lib.ListN.{replicate}
-use Rattle.filter.specs.Answers.{accepted?}
+use Rattle.filter.specs.declared.Answer.{Answer}
+use Rattle.filter.specs.Answers.{numberOf, placeOf, accepted?}
 use Rattle.filter.specs.Rect.{boundsOf}
 use Rattle.filter.proofs.Concat.{holds-bytes}
 use Rattle.filter.proofs.Owned.{sheet-bytes}
@@ -44,17 +45,24 @@ returns c =
     let count = a .sheet .count in
     let good = sym (c .before .before .before .before .before .before .before .before .before .before .before .before .is-accepted .ensures) ∙ c .before .before .before .before .before .before .before .before .before .before .before .if1 .taken in
     let R = redraw-ready w h steps count (a .source .now) (a .workspace .now) (a .scratch .now) (λ i. c .before .before .before .before .before .before .before .before .before .before .before .before .before .before .before .before .before .shared-slice-known .given i .fits) (a .named) (λ i. c .before .before .before .before .before .before .before .before .before .before .before .before .before .before .before .before .slice-known .given i .fits) (ap accepted? (sym (c .before .before .before .before .before .before .before .before .before .before .before .before .before .check-redraw .ensures)) ∙ good) in
-    let H = c .before .before .before .before .before .before .before .before .redraw-layers .ensures .1 in (
-      c .before .before .before .before .before .before .before .before .before .before .before .before .before .check-redraw .ensures,
+    let e = c .before .before .before .before .before .before .before .before .before .before .before .before .before .check-redraw .ensures in
+    let H = c .before .before .before .before .before .before .before .before .redraw-layers .ensures .1 .0 in (
+      e,
       (
-        count-accepted _ _ _ good (c .before .before .before .before .before .before .before .before .redraw-layers .ensures .0),
+        ap (λ (x : Answer). numberOf x) e,
         (
-          if-accepted _ _ _ _ good (holds-bytes w h count _ _ H),
+          ap (λ (x : Answer). placeOf x) e,
           (
-            if-accepted _ _ _ _ good (c .before .before .clear .ensures ∙ ap (λ (n : ℕ). replicate n 0) (c .before .before .before .before .before .before .before .before .redraw-layers .ensures .2)),
+            count-accepted _ _ _ good (c .before .before .before .before .before .before .before .before .redraw-layers .ensures .0),
             (
-              (λ e. redraws w h steps count (a .named) (a .source .now) (a .workspace .now) _ H),
-              λ e. holds-valid w h count _ _ H (redrawn-layers-valid w h steps count (λ k l. sheet-bytes (a .sheet) _ (s .good .1 .1 .0) k) (a .source .now) (R .0 .valid) (boundsOf (a .named)) (a .workspace .now) (R .1 .valid)),
+              if-accepted _ _ _ _ good (holds-bytes w h count _ _ H),
+              (
+                if-accepted _ _ _ _ good (c .before .before .clear .ensures ∙ ap (λ (n : ℕ). replicate n 0) (c .before .before .before .before .before .before .before .before .redraw-layers .ensures .1 .1 .long)),
+                (
+                  (λ e. redraws w h steps count (a .named) (a .source .now) (a .workspace .now) _ H),
+                  λ e. holds-valid w h count _ _ H (redrawn-layers-valid w h steps count (λ k l. sheet-bytes (a .sheet) _ (s .good .1 .1 .0) k) (a .source .now) (R .0 .valid) (boundsOf (a .named)) (a .workspace .now) (R .1 .valid)),
+                ),
+              ),
             ),
           ),
         ),
@@ -66,9 +74,16 @@ same-length-3 c = search needs
 
 returns-2 : tie.Need-returns-2
 returns-2 c =
+    let e = c .before .before .check-redraw .ensures in
     let bad = sym (c .before .is-accepted .ensures) ∙ c .if1 .left in (
-      c .before .before .check-redraw .ensures,
-      (count-refused _ _ bad, (if-refused _ _ _ bad, (if-refused _ _ _ bad, ((λ e. absurd (false≢true (sym bad ∙ e))), λ e. absurd (false≢true (sym bad ∙ e)))))),
+      e,
+      (
+        ap (λ (x : Answer). numberOf x) e,
+        (
+          ap (λ (x : Answer). placeOf x) e,
+          (count-refused _ _ bad, (if-refused _ _ _ bad, (if-refused _ _ _ bad, ((λ t. absurd (false≢true (sym bad ∙ t))), λ t. absurd (false≢true (sym bad ∙ t)))))),
+        ),
+      ),
     )
 
 pub redraw-spec : {M : Type 1} → statement M

@@ -4,7 +4,8 @@ use mathlib.Core.Bool.{true, false, false≢true}
 use mathlib.Core.List.{List}
 use Prim.Native.Nat.{ℕ}
 use lib.ListN.{length, replicate}
-use Rattle.filter.specs.Answers.{accepted?}
+use Rattle.filter.specs.declared.Answer.{Answer}
+use Rattle.filter.specs.Answers.{numberOf, placeOf, accepted?}
 use Rattle.filter.proofs.Concat.{holds-bytes}
 use Rattle.filter.proofs.Owned.{sheet-bytes}
 use Rattle.filter.proofs.ValidLayers.{layers-valid}
@@ -44,13 +45,20 @@ returns c =
     let count = a .sheet .count in
     let good = sym (c .before .before .before .before .before .before .before .before .before .before .before .before .is-accepted .ensures) ∙ c .before .before .before .before .before .before .before .before .before .before .before .if1 .taken in
     let R = render-ready w h steps count (a .source .now) (a .workspace .now) (a .scratch .now) (λ i. c .before .before .before .before .before .before .before .before .before .before .before .before .before .before .before .before .before .shared-slice-known .given i .fits) (ap accepted? (sym (c .before .before .before .before .before .before .before .before .before .before .before .before .before .check-render .ensures)) ∙ good) in
+    let e = c .before .before .before .before .before .before .before .before .before .before .before .before .before .check-render .ensures in
     let H = c .before .before .before .before .before .before .before .before .render-layers .ensures .0 in (
-      c .before .before .before .before .before .before .before .before .before .before .before .before .before .check-render .ensures,
+      e,
       (
-        if-accepted _ _ _ _ good (holds-bytes w h count _ _ H),
+        ap (λ (x : Answer). numberOf x) e,
         (
-          if-accepted _ _ _ _ good (c .before .before .clear .ensures ∙ ap (λ (n : ℕ). replicate n 0) (c .before .before .before .before .before .before .before .before .render-layers .ensures .1)),
-          λ e. holds-valid w h count _ _ H (layers-valid w h steps count (λ k l. sheet-bytes (a .sheet) _ (s .good .1 .1 .0) k) (a .source .now) (R .valid)),
+          ap (λ (x : Answer). placeOf x) e,
+          (
+            if-accepted _ _ _ _ good (holds-bytes w h count _ _ H),
+            (
+              if-accepted _ _ _ _ good (c .before .before .clear .ensures ∙ ap (λ (n : ℕ). replicate n 0) (c .before .before .before .before .before .before .before .before .render-layers .ensures .1 .long)),
+              λ e. holds-valid w h count _ _ H (layers-valid w h steps count (λ k l. sheet-bytes (a .sheet) _ (s .good .1 .1 .0) k) (a .source .now) (R .valid)),
+            ),
+          ),
         ),
       ),
     )
@@ -60,8 +68,9 @@ same-length-3 c = search needs
 
 returns-2 : tie.Need-returns-2
 returns-2 c =
+    let e = c .before .before .check-render .ensures in
     let bad = sym (c .before .is-accepted .ensures) ∙ c .if1 .left in
-    (c .before .before .check-render .ensures, (if-refused _ _ _ bad, (if-refused _ _ _ bad, λ e. absurd (false≢true (sym bad ∙ e)))))
+    (e, (ap (λ (x : Answer). numberOf x) e, (ap (λ (x : Answer). placeOf x) e, (if-refused _ _ _ bad, (if-refused _ _ _ bad, λ t. absurd (false≢true (sym bad ∙ t)))))))
 
 pub render-spec : {M : Type 1} → statement M
 render-spec =

@@ -4,6 +4,7 @@ use Prim.Native.Nat.{ℕ, _*_}
 use native.Mathlib.Omega.{arith}
 use borrow.Author.Needs.{needs}
 use Rattle.filter.specs.Checks.{answerOf, render}
+use Rattle.filter.specs.Limits.{textPicture}
 use Rattle.text_answer.proofs.Rooms.{size-le, zeros-long}
 use Rattle.text_answer.proofs.draw.Statement.{statement}
 use Rattle.text_answer.proofs.draw.Tie as tie
@@ -18,7 +19,7 @@ array-borrow-prefix-scratch : tie.Need-array-borrow-prefix-scratch
 array-borrow-prefix-scratch c = let s = c .before .before .before .before in omega (arith, size-le (s .args .width) (s .args .height) (c .before .picture-size .ensures .0) (s .pre .0) (s .pre .1))
 
 slice-aggregate-render : tie.Need-slice-aggregate-render
-slice-aggregate-render c = let s = c .before .before .before .before .before in sym (zeros-long _ 2048 (omega (arith, size-le (s .args .width) (s .args .height) (c .before .before .picture-size .ensures .0) (s .pre .0) (s .pre .1))))
+slice-aggregate-render c = let s = c .before .before .before .before .before in sym (zeros-long _ (2 * textPicture) (omega (arith, size-le (s .args .width) (s .args .height) (c .before .before .picture-size .ensures .0) (s .pre .0) (s .pre .1))))
 
 render-requires : tie.Need-render-requires
 render-requires c κs = search needs
@@ -30,8 +31,8 @@ returns : tie.Need-returns
 returns c =
     let s = c .before .before .before .before .before .before .before .before .before in
     let r = size-le (s .args .width) (s .args .height) (c .before .before .before .before .before .before .picture-size .ensures .0) (s .pre .0) (s .pre .1) in
-    let l = zeros-long (2 * c .before .before .before .before .before .before .picture-size .result) 2048 (omega arith) ∙ ap (λ (n : ℕ). 2 * n) (c .before .before .before .before .before .before .picture-size .ensures .0) in
-    (c .before .before .before .render .ensures .0 ∙ ap (answerOf (s .args .width) (s .args .height) (s .args .sheet .steps) (s .args .sheet .count) render (s .args .source .now) (s .args .workspace .now)) l, c .before .before .before .render .ensures .1 .0)
+    let l = zeros-long (2 * c .before .before .before .before .before .before .picture-size .result) (2 * textPicture) (omega arith) ∙ ap (λ (n : ℕ). 2 * n) (c .before .before .before .before .before .before .picture-size .ensures .0) in
+    (c .before .before .before .render .ensures .0 ∙ ap (answerOf (s .args .width) (s .args .height) (s .args .sheet .steps) (s .args .sheet .count) render (s .args .source .now) (s .args .workspace .now)) l, c .before .before .before .render .ensures .1 .1 .1 .0)
 
 pub draw-spec : {M : Type 1} → statement M
 draw-spec =

@@ -4,6 +4,7 @@ use Prim.Native.Nat.{ℕ, _*_}
 use native.Mathlib.Omega.{arith}
 use lib.ListN.{replicate}
 use borrow.Author.Needs.{needs}
+use Rattle.filter.specs.Limits.{mostSteps, textPicture}
 use Rattle.text_answer.proofs.Rooms.{size-le, layers-le, zeros-long, take-zeros}
 use Rattle.text_answer.proofs.print_sheet.Statement.{statement}
 use Rattle.text_answer.proofs.print_sheet.Tie as tie
@@ -18,13 +19,13 @@ array-borrow-prefix-workspace : tie.Need-array-borrow-prefix-workspace
 array-borrow-prefix-workspace c = let s = c .before .before .before .before in layers-le (s .args .sheet .count) (c .before .picture-size .result) (s .pre .2) (size-le (s .args .width) (s .args .height) (c .before .picture-size .ensures .0) (s .pre .0) (s .pre .1))
 
 slice-aggregate-print-drawn : tie.Need-slice-aggregate-print-drawn
-slice-aggregate-print-drawn c = let s = c .before .before .before .before .before in sym (zeros-long _ 16384 (layers-le (s .args .sheet .count) (c .before .before .picture-size .result) (s .pre .2) (size-le (s .args .width) (s .args .height) (c .before .before .picture-size .ensures .0) (s .pre .0) (s .pre .1))))
+slice-aggregate-print-drawn c = let s = c .before .before .before .before .before in sym (zeros-long _ (mostSteps * textPicture) (layers-le (s .args .sheet .count) (c .before .before .picture-size .result) (s .pre .2) (size-le (s .args .width) (s .args .height) (c .before .before .picture-size .ensures .0) (s .pre .0) (s .pre .1))))
 
 print-drawn-requires : tie.Need-print-drawn-requires
 print-drawn-requires c κs =
     let s = c .before .before .before .before .before .before in
     let e = ap (λ (k : ℕ). replicate {A = ℕ} (s .args .sheet .count * k) 0) (c .before .before .before .picture-size .ensures .0) in
-    (s .pre .0, s .pre .1, take-zeros _ 16384 (layers-le (s .args .sheet .count) (c .before .before .before .picture-size .result) (s .pre .2) (size-le (s .args .width) (s .args .height) (c .before .before .before .picture-size .ensures .0) (s .pre .0) (s .pre .1))) ∙ e, s .pre .3)
+    (s .pre .0, s .pre .1, take-zeros _ (mostSteps * textPicture) (layers-le (s .args .sheet .count) (c .before .before .before .picture-size .result) (s .pre .2) (size-le (s .args .width) (s .args .height) (c .before .before .before .picture-size .ensures .0) (s .pre .0) (s .pre .1))) ∙ e, s .pre .3)
 
 same-length : tie.Need-same-length
 same-length c = search needs

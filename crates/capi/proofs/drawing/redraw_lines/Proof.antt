@@ -32,7 +32,8 @@ returns-2 c =
     let e = c .before .before .before .before .before .before .before .before .before .before .before .before .read-steps .ensures in
     let yes = formed _ e (c .before .before .before .before .before .before .before .before .before .before .if1 .left) in
     let r = rw e at (c .before .before .before .before .before .before .redraw .ensures) in
-    (own-redrawing _ yes (r .0) _ _ _ (c .before .number .ensures) (c .place .ensures) (r .1 .0), (own _ yes (r .0) _ _ (r .1 .1 .0), (own _ yes (r .0) _ _ (r .1 .1 .1 .0), ((λ d. r .1 .1 .1 .1 .0 (own-drawn _ yes (r .0) d)), (λ d. r .1 .1 .1 .1 .1 (own-drawn _ yes (r .0) d))))))
+    let b = r .1 .1 .1 in
+    (own-redrawing _ yes (r .0) _ _ _ (c .before .number .ensures) (c .place .ensures) (b .0), (own _ yes (r .0) _ _ (b .1 .0), (own _ yes (r .0) _ _ (b .1 .1 .0), ((λ d. b .1 .1 .1 .0 (own-drawn _ yes (r .0) d)), (λ d. b .1 .1 .1 .1 (own-drawn _ yes (r .0) d))))))
 
 pub redraw-lines-spec : {M : Type 1} → statement M
 redraw-lines-spec =

@@ -1,24 +1,25 @@
 -- `draw_blur::lanes::spread_rows` meets its contract: each turn fills one lane. Assumes nothing.
 use Prim.Native.Nat.{ℕ, _+_, _-_, _*_, _≤_, _<_}
-use mathlib.Core.Path.{_≡_, refl, _∙_}
+use mathlib.Core.Path.{_≡_, _∙_}
 use native.Mathlib.Omega.{arith}
 use borrow.Author.Needs.{needs}
 use lib.ListN.{length}
 use Rattle.stage.specs.Buffers.{stands}
-use Rattle.draw_blur.specs.Lanes.{Lanes}
-use Rattle.draw_blur.proofs.Turning.{lanes-none, lanes-more}
+use Rattle.filter.specs.Limits.{longestRow}
+use Rattle.draw_blur.specs.Lanes.{Spread}
+use Rattle.draw_blur.proofs.Turning.{spread-none, spread-more}
 use Rattle.draw_blur.proofs.lanes.spread_rows.Statement.{statement}
 use Rattle.draw_blur.proofs.lanes.spread_rows.Tie as tie
 
 abbrev Inv-loop : tie.InvT-loop
 Inv-loop workspace source w h n input y count lines₀ from to row₀ k₀ lines row k =
-    (k ≤ count) × (length lines ≡ length lines₀) × (length row ≡ 4096) × Lanes (stands w h source workspace input) 0 from from to y k lines
+    (k ≤ count) × (length row ≡ longestRow) × Spread (stands w h source workspace input) from to y k lines₀ lines
 
 abbrev μ-loop : tie.MeasureT-loop
 μ-loop workspace source w h n input y count lines₀ from to row₀ k₀ lines row k = count - k
 
 loop-holds : tie.Need-loop-holds Inv-loop μ-loop
-loop-holds c = (omega arith, refl, search needs, lanes-none _ _ _ _ _ _ _)
+loop-holds c = (omega arith, search needs, spread-none _ _ _ _ _)
 
 add-load : tie.Need-add-load Inv-loop μ-loop
 add-load c = search needs
@@ -29,7 +30,7 @@ slice-aggregate-load c = search needs
 load-requires : tie.Need-load-requires Inv-loop μ-loop
 load-requires c κs =
     let s = c .before .before .before .before .before .before in
-    (s .pre .0 .0, (omega arith, s .pre .1 .0, s .pre .1 .1, s .pre .0 .1, omega (arith, s .pre .0 .0 .wide, s .pre .1 .1, c .before .before .loop .inv .2)))
+    (s .pre .0 .0, (omega arith, s .pre .1 .0, s .pre .1 .1, s .pre .0 .1, omega (arith, s .pre .0 .0 .wide, s .pre .1 .1, c .before .before .loop .inv .1)))
 
 slice-aggregate-spread : tie.Need-slice-aggregate-spread Inv-loop μ-loop
 slice-aggregate-spread c = search needs
@@ -44,7 +45,7 @@ spread-requires : tie.Need-spread-requires Inv-loop μ-loop
 spread-requires c κs =
     let s = c .before .before .before .before .before .before .before .before .before .before in
     let L = c .before .before .before .before .before .before .loop in
-    (omega (arith, s .pre .0 .0 .wide, s .pre .1 .1, c .before .before .before .load .ensures .long, L .inv .2), omega (arith, s .pre .0 .0 .wide, s .pre .1 .1, s .pre .1 .2, L .inv .1))
+    (omega (arith, s .pre .0 .0 .wide, s .pre .1 .1, c .before .before .before .load .ensures .long, L .inv .1), omega (arith, s .pre .0 .0 .wide, s .pre .1 .1, s .pre .1 .2, L .inv .2 .long))
 
 add-k : tie.Need-add-k Inv-loop μ-loop
 add-k c = search needs
@@ -57,16 +58,16 @@ loop-again c =
     let L = c .before .before .before .before .before .before .before .before .before .loop in
     let G = c .before .before .before .before .before .before .load .ensures in
     let R = c .before .before .spread .ensures in
-    (omega arith, R .long ∙ L .inv .1, G .long ∙ L .inv .2, lanes-more _ _ _ _ _ _ _ _ _ (omega arith) (L .inv .3) G R)
+    (omega arith, G .long ∙ L .inv .1, spread-more _ _ _ _ _ _ _ _ _ _ (omega arith) (L .inv .2) G R)
 
 same-length : tie.Need-same-length Inv-loop μ-loop
-same-length c = c .before .loop .inv .1
+same-length c = c .before .loop .inv .2 .long
 
 returns : tie.Need-returns Inv-loop μ-loop
 returns c =
     let L = c .before .loop in
     let e : L .k ≡ c .before .before .before .before .before .args .count = omega arith in
-    rw e at (L .inv .3)
+    rw e at (L .inv .2)
 
 pub spread-rows-spec : {M : Type 1} → statement M
 spread-rows-spec =

@@ -47,8 +47,8 @@ returns c =
     let a = s .args in
     let E = stands (a .w) (a .h) (a .source .now) (a .workspace .now) in
     let v = loaded-valid _ _ _ _ _ _ (load-at .load .ensures) (s .pre .0 .1 .valid _ (s .pre .0 .2)) in (
-      painted-as _ _ _ _ _ _ _ (λ x l h. ap (λ (p : Pixel). composited Over p (pixelAt (s .args .under .now) (4 * x))) (loaded-pixel (E (a .input)) (a .y) (a .from) (a .to) _ _ (load-at .load .ensures) x h)) (over-onto-at .over-onto .ensures),
-      over-valid _ _ _ _ v (s .pre .1 .3) (over-onto-at .over-onto .ensures),
+      painted-as _ _ _ _ _ _ _ (λ x l h. ap (λ (p : Pixel). composited Over p (pixelAt (s .args .under .now) (4 * x))) (loaded-pixel (E (a .input)) (a .y) (a .from) (a .to) _ _ (load-at .load .ensures) x h)) (over-onto-at .over-onto .ensures .0),
+      over-valid _ _ _ _ v (s .pre .1 .3) (over-onto-at .over-onto .ensures .0),
     )
 
 pub lay-spec : {M : Type 1} → statement M

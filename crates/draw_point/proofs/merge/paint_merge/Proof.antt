@@ -31,7 +31,7 @@ returns c =
     let stack-at = store-at .before .before .before .before .before .before .before .before .before in
     let s = stack-at .before .before .before .before .before .before .before .before .before .before in
     let a = s .args in
-    painted-stored (work (a .w) (a .h) (Merge (a .count) (a .inputs)) (stands (a .w) (a .h) (a .source .now) (a .workspace .now))) (a .y) (a .from) (a .to) _ _ (stack-at .stack .ensures) _ _ _ (store-at .store .ensures)
+    (painted-stored (work (a .w) (a .h) (Merge (a .count) (a .inputs)) (stands (a .w) (a .h) (a .source .now) (a .workspace .now))) (a .y) (a .from) (a .to) _ _ (stack-at .stack .ensures) _ _ _ (store-at .store .ensures), ((record { long = stack-at .stack .kept .1 .1 .1 .1 .1 .1 .1 .1 .1 .1 .0 }, record { long = stack-at .stack .kept .1 .1 .1 .1 .1 .1 .1 .1 .1 .1 .1 .0 }), record { long = stack-at .stack .ensures .long }))
 
 pub paint-merge-spec : {M : Type 1} → statement M
 paint-merge-spec =

@@ -35,7 +35,7 @@ returns c =
     let if1-at = paint-flood-at .before .before in
     let s = if1-at .before .before .before .before .before .before in
     let a = s .args in
-    painted-as _ _ _ _ _ _ _ (λ x l m. sym (shifted-above (a .dx) (a .dy) _ x (a .y) (if1-at .if1 .taken))) (paint-flood-at .paint-flood .ensures)
+    (painted-as _ _ _ _ _ _ _ (λ x l m. sym (shifted-above (a .dx) (a .dy) _ x (a .y) (if1-at .if1 .taken))) (paint-flood-at .paint-flood .ensures), record { long = refl })
 
 paint-flood-requires-2 : tie.Need-paint-flood-requires-2
 paint-flood-requires-2 c κs = search needs
@@ -51,7 +51,7 @@ returns-2 c =
     let if1-at = if2-at .before .before in
     let s = if1-at .before .before .before .before .before .before in
     let a = s .args in
-    painted-as _ _ _ _ _ _ _ (λ x l m. sym (shifted-below (a .dx) (a .dy) _ x (a .y) (a .w) (a .h) (stands-blank _ _ _ _ (a .i)) (if1-at .if1 .left) (if2-at .if2 .taken))) (paint-flood2-at .paint-flood2 .ensures)
+    (painted-as _ _ _ _ _ _ _ (λ x l m. sym (shifted-below (a .dx) (a .dy) _ x (a .y) (a .w) (a .h) (stands-blank _ _ _ _ (a .i)) (if1-at .if1 .left) (if2-at .if2 .taken))) (paint-flood2-at .paint-flood2 .ensures), record { long = refl })
 
 add-cut : tie.Need-add-cut
 unfolding Bounded
@@ -159,10 +159,12 @@ returns-3 c =
     let a = s .args in
     let D = s .pre .0 in
     let R = s .pre .1 in
-    let fits : start-at .start .result + 4 * a .w ≤ length (a .workspace .now) = omega (arith, start-at .start .ensures .1, D .sized .workspace) in
-    painted-row (start-at .start .result) (a .w) (a .workspace .now) fits _ _ _ _ _ _ (start-at .start .ensures .0) (R .order) (R .wide)
-    (moved-shifted (a .dx) (a .dy) _ (a .w) (a .h) (a .y) _ (a .from) (a .to) _ _ _ _ (stands-blank _ _ _ _ (a .i)) (R .order) (cut-at .cut .ensures) (cut2-at .cut2 .ensures) (if1-at .if1 .left) refl (load-at .load .ensures))
-    (shift-row-at .shift-row .ensures)
+    let fits : start-at .start .result + 4 * a .w ≤ length (a .workspace .now) = omega (arith, start-at .start .ensures .1, D .sized .workspace) in (
+      painted-row (start-at .start .result) (a .w) (a .workspace .now) fits _ _ _ _ _ _ (start-at .start .ensures .0) (R .order) (R .wide)
+          (moved-shifted (a .dx) (a .dy) _ (a .w) (a .h) (a .y) _ (a .from) (a .to) _ _ _ _ (stands-blank _ _ _ _ (a .i)) (R .order) (cut-at .cut .ensures) (cut2-at .cut2 .ensures) (if1-at .if1 .left) refl (load-at .load .ensures))
+          (shift-row-at .shift-row .ensures),
+      record { long = load-at .load .ensures .long },
+    )
 
 pub paint-offset-spec : {M : Type 1} → statement M
 paint-offset-spec =

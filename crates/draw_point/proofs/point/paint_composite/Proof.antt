@@ -97,9 +97,11 @@ returns c =
     let R = s .pre .0 .1 in
     let a = s .args in
     let E = stands (a .w) (a .h) (a .source .now) (a .workspace .now) in
-    let fits : start-at .start .result + 4 * (a .to - a .from) ≤ length (a .workspace .now) = omega (arith, start-at .start .ensures .1, D .sized .workspace, R .order, R .wide) in
-    painted-into (start-at .start .result) (a .to - a .from) (a .workspace .now) fits _ _ _ _ _ _ (start-at .start .ensures .0) refl (R .order)
-    (λ j l. ap₂ (composited (a .op)) (loaded-pixel (E (a .i)) (a .y) (a .from) (a .to) _ _ (load-at .load .ensures) j l) (loaded-pixel (E (a .j)) (a .y) (a .from) (a .to) _ _ (load2-at .load2 .ensures) j l)) (composite-row-at .composite-row .ensures)
+    let fits : start-at .start .result + 4 * (a .to - a .from) ≤ length (a .workspace .now) = omega (arith, start-at .start .ensures .1, D .sized .workspace, R .order, R .wide) in (
+      painted-into (start-at .start .result) (a .to - a .from) (a .workspace .now) fits _ _ _ _ _ _ (start-at .start .ensures .0) refl (R .order)
+          (λ j l. ap₂ (composited (a .op)) (loaded-pixel (E (a .i)) (a .y) (a .from) (a .to) _ _ (load-at .load .ensures) j l) (loaded-pixel (E (a .j)) (a .y) (a .from) (a .to) _ _ (load2-at .load2 .ensures) j l)) (composite-row-at .composite-row .ensures .0),
+      ((record { long = load-at .load .ensures .long }, record { long = load2-at .load2 .ensures .long }), composite-row-at .composite-row .ensures .1),
+    )
 
 pub paint-composite-spec : {M : Type 1} → statement M
 paint-composite-spec =

@@ -69,9 +69,11 @@ returns c =
     let R = s .pre .0 .1 in
     let a = s .args in
     let E = stands (a .w) (a .h) (a .source .now) (a .workspace .now) in
-    let fits : start-at .start .result + 4 * (a .to - a .from) ≤ length (a .workspace .now) = omega (arith, start-at .start .ensures .1, D .sized .workspace, R .order, R .wide) in
-    painted-into (start-at .start .result) (a .to - a .from) (a .workspace .now) fits _ _ _ _ _ _ (start-at .start .ensures .0) refl (R .order)
-    (λ j l. ap (transformed luminance) (loaded-pixel (E (a .i)) (a .y) (a .from) (a .to) _ _ (load-at .load .ensures) j l)) (luminance-row-at .luminance-row .ensures)
+    let fits : start-at .start .result + 4 * (a .to - a .from) ≤ length (a .workspace .now) = omega (arith, start-at .start .ensures .1, D .sized .workspace, R .order, R .wide) in (
+      painted-into (start-at .start .result) (a .to - a .from) (a .workspace .now) fits _ _ _ _ _ _ (start-at .start .ensures .0) refl (R .order)
+          (λ j l. ap (transformed luminance) (loaded-pixel (E (a .i)) (a .y) (a .from) (a .to) _ _ (load-at .load .ensures) j l)) (luminance-row-at .luminance-row .ensures),
+      record { long = load-at .load .ensures .long },
+    )
 
 pub paint-luminance-spec : {M : Type 1} → statement M
 paint-luminance-spec =

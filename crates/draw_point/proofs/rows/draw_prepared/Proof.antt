@@ -3,6 +3,7 @@ use Prim.Native.Nat.{_-_, _*_, _≤_}
 use mathlib.Core.Path.{sym}
 use native.Mathlib.Omega.{arith}
 use borrow.Author.Needs.{needs}
+use Rattle.window.specs.Limits.{longestRow}
 use Rattle.draw_point.proofs.Strokes.{prefix-long}
 use Rattle.draw_point.proofs.rows.draw_prepared.Statement.{statement}
 use Rattle.draw_point.proofs.rows.draw_prepared.Tie as tie
@@ -20,7 +21,7 @@ slice-aggregate-paint-rows : tie.Need-slice-aggregate-paint-rows
 slice-aggregate-paint-rows c =
     let s = c .before .before .before .before .before .before .before .before .before in
     let a = s .args in
-    let few : 4 * (a .rect .right - a .rect .left) ≤ 4096 = omega (arith, s .pre .3 .right, s .pre .0 .sized .wide) in
+    let few : 4 * (a .rect .right - a .rect .left) ≤ longestRow = omega (arith, s .pre .3 .right, s .pre .0 .sized .wide) in
     prefix-long _ few
 
 array-borrow-prefix-b : tie.Need-array-borrow-prefix-b
@@ -30,7 +31,7 @@ slice-aggregate-paint-rows-2 : tie.Need-slice-aggregate-paint-rows-2
 slice-aggregate-paint-rows-2 c =
     let s = c .before .before .before .before .before .before .before .before .before .before in
     let a = s .args in
-    let few : 4 * (a .rect .right - a .rect .left) ≤ 4096 = omega (arith, s .pre .3 .right, s .pre .0 .sized .wide) in
+    let few : 4 * (a .rect .right - a .rect .left) ≤ longestRow = omega (arith, s .pre .3 .right, s .pre .0 .sized .wide) in
     prefix-long _ few
 
 array-borrow-prefix-f : tie.Need-array-borrow-prefix-f
@@ -40,7 +41,7 @@ slice-aggregate-paint-rows-3 : tie.Need-slice-aggregate-paint-rows-3
 slice-aggregate-paint-rows-3 c =
     let s = c .before .before .before .before .before .before .before .before .before .before .before in
     let a = s .args in
-    let few : 4 * (a .rect .right - a .rect .left) ≤ 4096 = omega (arith, s .pre .3 .right, s .pre .0 .sized .wide) in
+    let few : 4 * (a .rect .right - a .rect .left) ≤ longestRow = omega (arith, s .pre .3 .right, s .pre .0 .sized .wide) in
     prefix-long _ few
 
 array-borrow-prefix-g : tie.Need-array-borrow-prefix-g
@@ -50,14 +51,14 @@ slice-aggregate-paint-rows-4 : tie.Need-slice-aggregate-paint-rows-4
 slice-aggregate-paint-rows-4 c =
     let s = c .before .before .before .before .before .before .before .before .before .before .before .before in
     let a = s .args in
-    let few : 4 * (a .rect .right - a .rect .left) ≤ 4096 = omega (arith, s .pre .3 .right, s .pre .0 .sized .wide) in
+    let few : 4 * (a .rect .right - a .rect .left) ≤ longestRow = omega (arith, s .pre .3 .right, s .pre .0 .sized .wide) in
     prefix-long _ few
 
 paint-rows-requires : tie.Need-paint-rows-requires
 paint-rows-requires c κs =
     let s = c .before .before .before .before .before .before .before .before .before .before .before .before in
     let a = s .args in
-    let few : 4 * (a .rect .right - a .rect .left) ≤ 4096 = omega (arith, s .pre .3 .right, s .pre .0 .sized .wide) in
+    let few : 4 * (a .rect .right - a .rect .left) ≤ longestRow = omega (arith, s .pre .3 .right, s .pre .0 .sized .wide) in
     let long = sym (prefix-long _ few) in
     (s .pre, (long, long, long, long))
 

@@ -142,7 +142,7 @@ returns-5 c =
     let s = primitive2-at .before .before .before .before .before .before .before .before .before .before .before .before in
     let a = s .args in
     let E = stands (a .w) (a .h) (a .source .now) (a .workspace .now) in
-    painted-known (a .w) (a .h) _ _ (primitive2-at .primitive2 .given .1) E _ (a .y) _ _ _ _ (paint-offset-at .paint-offset .ensures)
+    painted-known (a .w) (a .h) _ _ (primitive2-at .primitive2 .given .1) E _ (a .y) _ _ _ _ (paint-offset-at .paint-offset .ensures .0)
 
 same-length-4 : tie.Need-same-length-4
 same-length-4 c = search needs
@@ -157,7 +157,7 @@ returns-6 c =
     let s = primitive3-at .before .before .before .before .before .before .before .before .before .before .before .before in
     let a = s .args in
     let E = stands (a .w) (a .h) (a .source .now) (a .workspace .now) in
-    painted-known (a .w) (a .h) _ _ (primitive3-at .primitive3 .given .1) E _ (a .y) _ _ _ _ (paint-transform-at .paint-transform .ensures)
+    painted-known (a .w) (a .h) _ _ (primitive3-at .primitive3 .given .1) E _ (a .y) _ _ _ _ (paint-transform-at .paint-transform .ensures .0)
 
 same-length-6 : tie.Need-same-length-6
 same-length-6 c = search needs
@@ -172,7 +172,7 @@ returns-7 c =
     let s = primitive4-at .before .before .before .before .before .before .before .before .before .before .before .before in
     let a = s .args in
     let E = stands (a .w) (a .h) (a .source .now) (a .workspace .now) in
-    painted-known (a .w) (a .h) _ _ (primitive4-at .primitive4 .given .1) E _ (a .y) _ _ _ _ (paint-luminance-at .paint-luminance .ensures)
+    painted-known (a .w) (a .h) _ _ (primitive4-at .primitive4 .given .1) E _ (a .y) _ _ _ _ (paint-luminance-at .paint-luminance .ensures .0)
 
 same-length-8 : tie.Need-same-length-8
 same-length-8 c = search needs
@@ -196,7 +196,7 @@ returns-8 c =
     let s = primitive5-at .before .before .before .before .before .before .before .before .before .before .before .before in
     let a = s .args in
     let E = stands (a .w) (a .h) (a .source .now) (a .workspace .now) in
-    painted-known (a .w) (a .h) _ _ (primitive5-at .primitive5 .given .1) E _ (a .y) _ _ _ _ (paint-composite-at .paint-composite .ensures)
+    painted-known (a .w) (a .h) _ _ (primitive5-at .primitive5 .given .1) E _ (a .y) _ _ _ _ (paint-composite-at .paint-composite .ensures .0)
 
 same-length-13 : tie.Need-same-length-13
 same-length-13 c = search needs
@@ -214,7 +214,7 @@ returns-9 c =
     let s = primitive6-at .before .before .before .before .before .before .before .before .before .before .before .before in
     let a = s .args in
     let E = stands (a .w) (a .h) (a .source .now) (a .workspace .now) in
-    painted-known (a .w) (a .h) _ _ (primitive6-at .primitive6 .given .1) E _ (a .y) _ _ _ _ (paint-combine-at .paint-combine .ensures)
+    painted-known (a .w) (a .h) _ _ (primitive6-at .primitive6 .given .1) E _ (a .y) _ _ _ _ (paint-combine-at .paint-combine .ensures .0)
 
 same-length-16 : tie.Need-same-length-16
 same-length-16 c = search needs
@@ -235,7 +235,7 @@ returns-10 c =
     let s = primitive7-at .before .before .before .before .before .before .before .before .before .before .before .before in
     let a = s .args in
     let E = stands (a .w) (a .h) (a .source .now) (a .workspace .now) in
-    painted-known (a .w) (a .h) _ _ (primitive7-at .primitive7 .given .1) E _ (a .y) _ _ _ _ (paint-merge-at .paint-merge .ensures)
+    painted-known (a .w) (a .h) _ _ (primitive7-at .primitive7 .given .1) E _ (a .y) _ _ _ _ (paint-merge-at .paint-merge .ensures .0)
 
 pub paint-spec : {M : Type 1} → statement M
 paint-spec =

@@ -21,7 +21,7 @@ same-length-3 c = search needs
 returns : tie.Need-returns
 returns c =
     let call = c .before .before .before .before .before .before in
-    rw (call .before .before .before .before .operator-at .ensures) at (call .composite-row .ensures)
+    (rw (call .before .before .before .before .operator-at .ensures) at (call .composite-row .ensures .0), call .composite-row .ensures .1)
 
 pub twillgoose-kernel-composite-row-spec : {M : Type 1} → statement M
 twillgoose-kernel-composite-row-spec =

@@ -40,7 +40,7 @@ ready-start c =
       sums = omega (arith, pre .1 .0, c .start .kept .1 .1 .0);
       limit = pre .1 .3;
       few = pre .1 .1;
-      divides = c .before .before .before .before .before .before .reciprocal-of .ensures;
+      divides = c .before .before .before .before .before .before .reciprocal-of .ensures .2;
     }
 
 two-runs : (c : tie.After-inner-lines) → Advanced (pass (c .before .before .before .before .before .before .before .before .before .before .before .before)) 0 (low (c .before .before .before .before .before .before .before .before .before .before .before .before)) (c .before .before .before .before .before .before .before .before .before .before .before .before .before .before .before .before .before .before .before .before .before .args .buf .now) (c .before .before .before .before .before .before .before .before .before .before .before .before .start .last .1 .1 .0) (c .inner-lines .last .0) (c .inner-lines .last .1 .1 .1 .1 .0)
@@ -106,7 +106,7 @@ returns c =
     let lines = c .before .before .before .before .before .before .before .before .before .before .before in
     let started = lines .before .before .before .before .before .before .before .before .before .before .before .before in
     let b = bounds started in
-    advanced-lined _ _ _ _ _ (advanced-then _ 0 _ _ _ _ _ (ready-start started) (omega arith) (b .2 .0) (two-runs lines) _ _ _ (b .2 .0) (c .before .before .before .before .edge-lines2 .ensures))
+    (advanced-lined _ _ _ _ _ (advanced-then _ 0 _ _ _ _ _ (ready-start started) (omega arith) (b .2 .0) (two-runs lines) _ _ _ (b .2 .0) (c .before .before .before .before .edge-lines2 .ensures)), search needs)
 
 pub box-pass-spec : {M : Type 1} → statement M
 box-pass-spec =

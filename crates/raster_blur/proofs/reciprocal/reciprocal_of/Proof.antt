@@ -5,6 +5,7 @@ use native.Mathlib.Nat.{pow-succ'}
 use native.Mathlib.Numerals.{add-one}
 use native.Mathlib.Omega.{arith}
 use borrow.Author.Needs.{needs}
+use Rattle.raster_blur.specs.Reciprocal.{ceiling}
 use Rattle.raster_blur.proofs.Divide.{fits, divides}
 use Rattle.raster_blur.proofs.reciprocal.reciprocal_of.Statement.{statement}
 use Rattle.raster_blur.proofs.reciprocal.reciprocal_of.Tie as tie
@@ -56,7 +57,11 @@ cast-t10 c =
 returns : tie.Need-returns Inv-loop μ-loop
 returns c =
     let L = c .before .loop in
-    divides (L .power) (L .shift) (c .before .before .args .size) _ (L .inv .0) (L .inv .1) (c .loop-test .left) (omega arith) refl
+    let size = c .before .before .args .size in (
+      ap (λ (k : ℕ). ceiling (k * 65536) size) (L .inv .0),
+      record { below = omega (arith, L .inv .0, L .inv .1); most = omega (arith, L .inv .0, c .loop-test .left) },
+      divides (L .power) (L .shift) size _ (L .inv .0) (L .inv .1) (c .loop-test .left) (omega arith) refl,
+    )
 
 pub reciprocal-of-spec : {M : Type 1} → statement M
 reciprocal-of-spec =
