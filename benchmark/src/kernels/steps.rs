@@ -77,15 +77,24 @@ fn blur(c: &mut Canvas, d: usize) {
     kernels::blur_lines(&mut c.pair, row, side, d, &mut c.sums);
 }
 
-/// Along each row, then down the picture. The result is one of the pictures of `pair`.
-fn extreme(c: &mut Canvas, largest: bool, r: usize) {
+/// Along each row. The result is the first picture of `pair`.
+fn extreme_along(c: &mut Canvas, largest: bool, r: usize) {
     let (side, row) = (c.side, 4 * c.side);
     for (src, dst) in c.a.chunks_exact(row).zip(c.pair.chunks_exact_mut(row)) {
         kernels::copy(src, &mut c.two_rows[..row]);
         let at = kernels::extreme_lines(largest, &mut c.two_rows, 4, side, r);
         kernels::copy(&c.two_rows[at..at + row], dst);
     }
-    black_box(kernels::extreme_lines(largest, &mut c.pair, row, side, r));
+}
+
+/// Down the first picture of `pair`. The result is one of its pictures.
+fn extreme_down(c: &mut Canvas, largest: bool, r: usize) {
+    black_box(kernels::extreme_lines(largest, &mut c.pair, 4 * c.side, c.side, r));
+}
+
+fn extreme(c: &mut Canvas, largest: bool, r: usize) {
+    extreme_along(c, largest, r);
+    extreme_down(c, largest, r);
 }
 
 /// The steps in the order of the table.
@@ -112,6 +121,10 @@ pub fn all() -> Vec<Step> {
         for (r, target) in [(1, 4.0), (8, 7.0), (64, 10.0)] {
             steps.push(step(format!("{name}, r = {r}"), target, move |c| extreme(c, largest, r)));
         }
+    }
+    for r in [1, 2, 8, 64] {
+        steps.push(step(format!("dilate along rows, r = {r}"), None, move |c| extreme_along(c, true, r)));
+        steps.push(step(format!("dilate down, r = {r}"), None, move |c| extreme_down(c, true, r)));
     }
     steps
 }

@@ -35,6 +35,9 @@ pub fn radius_window(r: usize) -> Window
     Window { back: r, ahead: r }
 }
 
+// Where the second of a line's two rows begins: not 4,096 bytes after the first, where a load waits for the store that seems to be at its place.
+const SECOND: usize = window::ROW + 512;
+
 // The first count pixels of a line are worked as a row of their own; width of the results, from `skip` on, go to the pixels of dst from `at` on.
 fn extreme_row(
     op: Extreme,
@@ -46,11 +49,11 @@ fn extreme_row(
     at: usize,
     width: usize,
 )
-    requires { ⌜ (length (now line) ≡ 2 * longestRow) × (0 < count) × (count ≤ longestSide) × (k .back ≤ 64) × (k .ahead ≤ 64) ⌝ }
+    requires { ⌜ (length (now line) ≡ 2 * longestRow + 512) × (0 < count) × (count ≤ longestSide) × (k .back ≤ 64) × (k .ahead ≤ 64) ⌝ }
     requires { ⌜ (skip + width ≤ count) × (4 * (at + width) ≤ length (now dst)) ⌝ }
     ensures { λ _. ⌜ Painted (λ j. alongRow (extremes op (k .back) (k .ahead)) (now (line .entry)) count (skip + (j - at))) 0 at (at + width) (now (dst .entry)) (now (dst .exit)) ⌝ }
 {
-    let here = raster_morph::extreme_lines(op, line, 0, window::ROW, 4, count, k.back, k.ahead);
+    let here = raster_morph::extreme_lines(op, line, 0, SECOND, 4, count, k.back, k.ahead);
     raster::row::copy_pixels(&line[..], here / 4 + skip, dst, at, at + width);
 }
 
@@ -79,7 +82,7 @@ fn extreme_across(
     let span = reached(w, left, right, k.back, k.ahead);
     let from = span.from;
     let to = span.to;
-    let mut line = [0u8; 2 * window::ROW];
+    let mut line = [0u8; SECOND + window::ROW];
     for y in top..bottom {
         stage::load(workspace, source, w, h, n, input, y, from, to, &mut line);
         let at = (y - top) * width;

@@ -1,5 +1,5 @@
 -- Windows cut at the ends of the lines: two of them that overlap make a longer one, "cut" as well. Assumes nothing.
-use mathlib.Core.Path.{_≡_, ap, _∙_}
+use mathlib.Core.Path.{_≡_, ap, ap₂, _∙_}
 use mathlib.Core.Logic.{_⊎_, inl, inr, ⊎-elim}
 use Prim.Native.Nat.{ℕ, _+_, _-_, _≤_, _<_, min, max}
 use native.Mathlib.Omega.{arith}
@@ -8,7 +8,7 @@ use Rattle.window.specs.Window.{fold}
 use Rattle.window.proofs.Band.{fold-same}
 use Rattle.window.proofs.Store.{lt-or-le}
 use Rattle.raster_morph.specs.Growth.{cut, earlier, later}
-use Rattle.raster_morph.proofs.Folds.{Semilattice, fold-join}
+use Rattle.raster_morph.proofs.Folds.{Semilattice, fold-join, between}
 
 pub earlier-is : (s v : ℕ) → ((v < s) × (earlier s v ≡ v)) ⊎ ((s ≤ v) × (earlier s v ≡ v - s))
 unfolding earlier
@@ -52,6 +52,29 @@ module _ (op : ℕ → ℕ → ℕ) (e : ℕ) (S : Semilattice op) (f : ℕ → 
     -- the window of v that is longer by s and t, from the windows of two other lines
     pub cut-grow : op (cut op e p q count f (earlier s v)) (cut op e p q count f (later t count v)) ≡ cut op e (p + s) (q + t) count f v
     cut-grow = grow-at (earlier s v) (later t count v) (earlier-is s v) (later-is t count v)
+
+  -- the same where the window of v itself fills the gap between the two
+  module _ (count p q s t v : ℕ) (among : v < count) (hs : s ≤ p + 1) (ht : t ≤ q + 1) where
+    self-before : earlier 0 v ≡ v
+    self-before = ⊎-elim (λ (h : (v < 0) × (earlier 0 v ≡ v)). h .1) (λ (h : (0 ≤ v) × (earlier 0 v ≡ v - 0)). omega (arith, h .1)) (earlier-is 0 v)
+
+    self-after : later 0 count v ≡ v
+    self-after = ⊎-elim (λ (h : (v + 0 < count) × (later 0 count v ≡ v + 0)). omega (arith, h .1)) (λ (h : (count ≤ v + 0) × (later 0 count v ≡ v)). h .1) (later-is 0 count v)
+
+    sides-join : op (cut op e (p + s) q count f v) (cut op e p (q + t) count f v) ≡ cut op e (p + s) (q + t) count f v
+    unfolding cut
+    sides-join = span-join (v - (p + s)) (v - p) (min count (v + q + 1)) (min count (v + (q + t) + 1)) (omega arith) (omega arith) (omega arith)
+
+    pub cut-around : op (op (cut op e p q count f (earlier s v)) (cut op e p q count f (later t count v))) (cut op e p q count f v) ≡ cut op e (p + s) (q + t) count f v
+    cut-around =
+        let left : op (cut op e p q count f (earlier s v)) (cut op e p q count f v) ≡ cut op e (p + s) q count f v =
+        let z : q + 0 ≡ q = omega arith in
+        rw (self-after, z) at (cut-grow count p q s 0 v among hs (omega arith) (omega arith)) in
+        let right : op (cut op e p q count f v) (cut op e p q count f (later t count v)) ≡ cut op e p (q + t) count f v =
+        let z : p + 0 ≡ p = omega arith in
+        rw (self-before, z) at (cut-grow count p q 0 t v among (omega arith) ht (omega arith)) in
+        between op e S (cut op e p q count f (earlier s v)) (cut op e p q count f v) (cut op e p q count f (later t count v))
+        ∙ ap₂ op left right ∙ sides-join
 
 -- a window of one line
 pub cut-one : (op : ℕ → ℕ → ℕ) (e count : ℕ) (f : ℕ → ℕ) (v : ℕ) → v < count → op e (f v) ≡ f v → cut op e 0 0 count f v ≡ f v

@@ -13,11 +13,18 @@ pub record Semilattice (op : ℕ → ℕ → ℕ) : Type 0 where
 
 module _ (op : ℕ → ℕ → ℕ) (e : ℕ) (S : Semilattice op) where
   -- x taken in twice is x taken in once
-  twice : (x y : ℕ) → op (op x y) y ≡ op x y
+  pub twice : (x y : ℕ) → op (op x y) y ≡ op x y
   twice x y = S .assoc x y y ∙ ap (op x) (S .idem y)
 
   swap : (x y z : ℕ) → op (op x y) z ≡ op (op x z) y
   swap x y z = S .assoc x y z ∙ ap (op x) (S .comm y z) ∙ sym (S .assoc x z y)
+
+  pub again-first : (x y : ℕ) → op (op x y) x ≡ op x y
+  again-first x y = swap x y x ∙ ap (λ (k : ℕ). op k y) (S .idem x)
+
+  -- y between x and z may be taken in once or twice
+  pub between : (x y z : ℕ) → op (op x z) y ≡ op (op x y) (op y z)
+  between x y z = swap x z y ∙ ap (λ (k : ℕ). op k z) (sym (twice x y)) ∙ S .assoc _ y z
 
   -- the start is in every fold already, and so is each term
   pub fold-start : (n : ℕ) (f : ℕ → ℕ) → op (fold op e n f) e ≡ fold op e n f

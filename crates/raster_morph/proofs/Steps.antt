@@ -31,21 +31,23 @@ after-step p q ahead s u t a e l = record { far = omega arith; both = omega arit
 
 joined : (p q back ahead s t : ℕ) → Before p back s → After p q ahead s t → Stretch p q back ahead (p + s) (q + t)
 joined p q back ahead s t S T = record {
-  towards = record {
-    low = S .low;
-    high = T .high;
-    more = λ go. ⊎-elim
-        (λ g. let m = S .more g in omega arith)
-        (λ g. let z : s ≤ 0 = omega (arith, S .low) in let y : q < ahead = omega (arith, S .low) in let m = T .more z y in omega arith)
-        (lt-or-le p back);
+  sides = record {
+    towards = record {
+      low = S .low;
+      high = T .high;
+      more = λ go. ⊎-elim
+          (λ g. let m = S .more g in omega arith)
+          (λ g. let z : s ≤ 0 = omega (arith, S .low) in let y : q < ahead = omega (arith, S .low) in let m = T .more z y in omega arith)
+          (lt-or-le p back);
+    };
+    from-back = omega arith;
+    from-ahead = omega arith;
+    near = omega (arith, S .near);
+    far = omega (arith, T .far);
+    half-back = omega (arith, S .half);
+    half-ahead = omega (arith, T .far, T .high);
   };
-  from-back = omega arith;
-  from-ahead = omega arith;
-  near = omega (arith, S .near);
-  far = omega (arith, T .far);
   both = omega (arith, T .both);
-  half-back = omega (arith, S .half);
-  half-ahead = omega (arith, T .far, T .high);
 }
 
 pub step : (p q back ahead k s u t : ℕ) → k ≡ max p 1 → s ≡ min k (back - p) → u ≡ min (q + 1) (p + q + 1 - s) → t ≡ min u (ahead - q) → p ≤ back → q ≤ ahead

@@ -7,18 +7,18 @@ use Rattle.window.specs.Store.{Lined}
 use Rattle.window.proofs.Store.{lined-outside}
 use Rattle.raster_morph.specs.declared.Extreme.{Extreme}
 use Rattle.raster_morph.specs.Operation.{operation, start}
-use Rattle.raster_morph.specs.Growth.{cut, earlier, later, paired, pairedTwice, Holds, Widened, Towards, Stretch}
-use Rattle.raster_morph.proofs.Cuts.{earlier-in, later-in, cut-grow}
+use Rattle.raster_morph.specs.Growth.{cut, earlier, later, paired, around, pairedTwice, Holds, Widened, Towards, Sides, Stretch}
+use Rattle.raster_morph.proofs.Cuts.{earlier-in, later-in, cut-grow, cut-around}
 use Rattle.raster_morph.proofs.Edges.{lattice}
 
 -- two windows that reach p and q make one that reaches p′ and q′
 grow-cut : (op : Extreme) (p q back ahead p′ q′ count : ℕ) (f : ℕ → ℕ) (v : ℕ) → Stretch p q back ahead p′ q′ → v < count
     → operation op (cut (operation op) (start op) p q count f (earlier (p′ - p) v)) (cut (operation op) (start op) p q count f (later (q′ - q) count v)) ≡ cut (operation op) (start op) p′ q′ count f v
 grow-cut op p q back ahead p′ q′ count f v S h =
-    let a : p + (p′ - p) ≡ p′ = omega (arith, S .from-back) in
-    let b : q + (q′ - q) ≡ q′ = omega (arith, S .from-ahead) in
-    let near : p′ - p ≤ p + 1 = omega (arith, S .near) in
-    let far : q′ - q ≤ q + 1 = omega (arith, S .far) in
+    let a : p + (p′ - p) ≡ p′ = omega (arith, S .sides .from-back) in
+    let b : q + (q′ - q) ≡ q′ = omega (arith, S .sides .from-ahead) in
+    let near : p′ - p ≤ p + 1 = omega (arith, S .sides .near) in
+    let far : q′ - q ≤ q + 1 = omega (arith, S .sides .far) in
     let both : p′ - p + (q′ - q) ≤ p + q + 1 = omega (arith, S .both, a, b) in
     cut-grow (operation op) (start op) (lattice op) f count p q (p′ - p) (q′ - q) v h near far both ∙ rw (a, b)
 
@@ -50,9 +50,26 @@ widened-twice op p q back ahead p₁ q₁ p₂ q₂ from to n count d d′ S T L
   long = L .long;
 }
 
+-- three windows that reach p and q, one of them the line's own
+pub widened-around : (op : Extreme) (p q back ahead p₁ q₁ from to n count : ℕ) (d d′ : List ℕ) → Sides p q back ahead p₁ q₁
+    → Lined (around (operation op) d from n count (p₁ - p) (q₁ - q)) to n count d d′ → Widened op p q p₁ q₁ from to n count d d′
+widened-around op p q back ahead p₁ q₁ from to n count d d′ S L =
+    let a : p + (p₁ - p) ≡ p₁ = omega (arith, S .from-back) in
+    let b : q + (q₁ - q) ≡ q₁ = omega (arith, S .from-ahead) in
+    let near : p₁ - p ≤ p + 1 = omega (arith, S .near) in
+    let far : q₁ - q ≤ q + 1 = omega (arith, S .far) in record {
+      holds = λ f H v i h l. L .inside v i h l
+          ∙ ap₂ (operation op)
+          (ap₂ (operation op) (H (earlier (p₁ - p) v) i (earlier-in (p₁ - p) count v h) l) (H (later (q₁ - q) count v) i (later-in (q₁ - q) count v h) l)) (H v i h l)
+          ∙ cut-around (operation op) (start op) (lattice op) (λ w. f w i) count p q (p₁ - p) (q₁ - q) v h near far
+          ∙ rw (a, b);
+      off = λ j o. lined-outside _ _ _ _ _ _ j L o;
+      long = L .long;
+    }
+
 pub towards-twice : (p q back ahead p₁ q₁ p₂ q₂ : ℕ) → Stretch p q back ahead p₁ q₁ → Stretch p₁ q₁ back ahead p₂ q₂ → Towards p q back ahead p₂ q₂
 towards-twice p q back ahead p₁ q₁ p₂ q₂ S T = record {
-  low = T .towards .low;
-  high = T .towards .high;
-  more = λ go. let m = S .towards .more go in omega (arith, m, T .from-back, T .from-ahead);
+  low = T .sides .towards .low;
+  high = T .sides .towards .high;
+  more = λ go. let m = S .sides .towards .more go in omega (arith, m, T .sides .from-back, T .sides .from-ahead);
 }

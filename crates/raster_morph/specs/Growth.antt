@@ -38,7 +38,11 @@ edgedLine op back ahead d o n count v i = edged op back ahead count v (byteAt d 
 abbrev pub paired : (ℕ → ℕ → ℕ) → List ℕ → ℕ → ℕ → ℕ → ℕ → ℕ → ℕ → ℕ → ℕ
 paired op d from n count s t v i = op (byteAt d from n (earlier s v) i) (byteAt d from n (later t count v) i)
 
--- the same of such pairs, by s2 and t2
+-- the same with byte i of line v itself
+abbrev pub around : (ℕ → ℕ → ℕ) → List ℕ → ℕ → ℕ → ℕ → ℕ → ℕ → ℕ → ℕ → ℕ
+around op d from n count s t v i = op (paired op d from n count s t v i) (byteAt d from n v i)
+
+-- such pairs put together, by s2 and t2
 abbrev pub pairedTwice : (ℕ → ℕ → ℕ) → List ℕ → ℕ → ℕ → ℕ → ℕ → ℕ → ℕ → ℕ → ℕ → ℕ → ℕ
 pairedTwice op d from n count s t s2 t2 v i = op (paired op d from n count s t (earlier s2 v) i) (paired op d from n count s t (later t2 count v) i)
 
@@ -62,13 +66,17 @@ pub record Towards (p q back ahead p′ q′ : ℕ) : Type 0 where
   pub high : q′ ≤ ahead
   pub more : p + q < back + ahead → p + q < p′ + q′
 
--- the same, by no more than two windows of p and q can cover, nor the lines
-pub record Stretch (p q back ahead p′ q′ : ℕ) : Type 0 where
+-- the same, on each side by no more than the window reaches there, nor the lines
+pub record Sides (p q back ahead p′ q′ : ℕ) : Type 0 where
   pub towards : Towards p q back ahead p′ q′
   pub from-back : p ≤ p′
   pub from-ahead : q ≤ q′
   pub near : p′ ≤ p + p + 1
   pub far : q′ ≤ q + q + 1
-  pub both : p′ + q′ ≤ p + q + (p + q) + 1
   pub half-back : p′ + p′ ≤ p + p + back + 1
   pub half-ahead : q′ + q′ ≤ q + q + ahead + 1
+
+-- the same, by no more than two windows of p and q can cover
+pub record Stretch (p q back ahead p′ q′ : ℕ) : Type 0 where
+  pub sides : Sides p q back ahead p′ q′
+  pub both : p′ + q′ ≤ p + q + (p + q) + 1

@@ -25,6 +25,10 @@ extreme op back ahead f x = over (operation op) (start op) back ahead f x
 abbrev pub shifted : (ℕ → ℕ → ℕ) → List ℕ → ℕ → ℕ → ℕ → ℕ → ℕ
 shifted op d from shift to j = op (getD d (from + (j - to)) 0) (getD d (from + shift + (j - to)) 0)
 
+-- for the index j = to + i: the bytes at w + i, x + i and y + i, put together
+abbrev pub three : (ℕ → ℕ → ℕ) → List ℕ → ℕ → ℕ → ℕ → ℕ → ℕ → ℕ
+three op d w x y to j = op (op (getD d (w + (j - to)) 0) (getD d (x + (j - to)) 0)) (getD d (y + (j - to)) 0)
+
 -- for the index j = to + i: the bytes at w + i, x + i, y + i and z + i, put together
 abbrev pub four : (ℕ → ℕ → ℕ) → List ℕ → ℕ → ℕ → ℕ → ℕ → ℕ → ℕ → ℕ
 four op d w x y z to j = op (op (getD d (w + (j - to)) 0) (getD d (x + (j - to)) 0)) (op (getD d (y + (j - to)) 0) (getD d (z + (j - to)) 0))

@@ -3,7 +3,7 @@ ghost use mathlib.Core.Path.{_≡_};
 ghost use Prim.Native.Nat.{_+_, _≤_, min, max};
 ghost use lib.ListN.{length};
 ghost use Rattle.window.specs.Store.{Filled};
-ghost use Rattle.raster_morph.specs.Operation.{operation, shifted, four};
+ghost use Rattle.raster_morph.specs.Operation.{operation, shifted, three, four};
 ghost use Rattle.window.specs.Ranges.{Apart};
 ghost use Rattle.raster_morph.specs.Ranges.{Readable};
 use super::Extreme;
@@ -37,6 +37,17 @@ pub fn fold_shifted(op: Extreme, buf: &mut [u8], from: usize, to: usize, m: usiz
 {
     for i in 0..m {
         buf[to + i] = extreme_byte(op, buf[from + i], buf[from + shift + i]);
+    }
+}
+
+// Stores at the m bytes from `to` on the extreme of three bytes each, from w, x and y on.
+pub fn fold_three(op: Extreme, buf: &mut [u8], w: usize, x: usize, y: usize, to: usize, m: usize)
+    requires { ⌜ Readable w to m (now buf) × Readable x to m (now buf) × Readable y to m (now buf) × (to + m ≤ length (now buf)) ⌝ }
+    ensures { λ _. ⌜ Filled (three (operation op) (now (buf .entry)) w x y to) to (to + m) (now (buf .entry)) (now (buf .exit)) ⌝ }
+{
+    for i in 0..m {
+        let pair = extreme_byte(op, buf[w + i], buf[x + i]);
+        buf[to + i] = extreme_byte(op, pair, buf[y + i]);
     }
 }
 

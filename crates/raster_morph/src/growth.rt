@@ -1,10 +1,13 @@
 // Windows that grow until they reach as far as is asked.
+ghost use mathlib.Core.Path.{_≡_};
+ghost use mathlib.Core.Bool.{true};
 ghost use Prim.Native.Nat.{_+_, _*_, _≤_, _<_};
 ghost use lib.ListN.{length};
 ghost use Rattle.window.specs.Ranges.{Apart};
 ghost use Rattle.raster_morph.specs.Ranges.{PingPong};
-ghost use Rattle.raster_morph.specs.Growth.{Stretch, Towards, Widened, windows};
+ghost use Rattle.raster_morph.specs.Growth.{Sides, Stretch, Towards, Widened, windows};
 use super::Extreme;
+use super::line::fold_around;
 use super::line::fold_lines;
 use super::line::fold_lines_twice;
 
@@ -27,8 +30,48 @@ fn stretch(p: usize, q: usize, back: usize, ahead: usize) -> Reach
     }
 }
 
+// The same, as far as three windows cover: each side about doubles.
+fn stretch_sides(p: usize, q: usize, back: usize, ahead: usize) -> Reach
+    requires { ⌜ (p ≤ back) × (q ≤ ahead) × (back ≤ 64) × (ahead ≤ 64) ⌝ }
+    ensures { λ r. ⌜ Sides p q back ahead (r .back) (r .ahead) ⌝ }
+{
+    Reach {
+        back: p + window::lesser(p + 1, back - p),
+        ahead: q + window::lesser(q + 1, ahead - q),
+    }
+}
+
 // Lines of this many bytes and more grow twice in one pass over them: a picture of such lines does not stay in the cache.
 const LONG: usize = 1024;
+
+// Whether 1, doubled some times, is r.
+fn doubles_to(r: usize) -> bool
+    requires { ⌜ r ≤ 64 ⌝ }
+    ensures { λ b. ⌜ (b ≡ true → 0 < r) ⌝ }
+{
+    let mut k: usize = 1;
+    while k < r {
+        k = 2 * k;
+    }
+    k == r
+}
+
+// Whether a pass takes three windows: the first one over short lines, where by two a last pass would be left for one line alone.
+fn takes_three(n: usize, p: usize, q: usize, back: usize, ahead: usize) -> bool
+    requires { ⌜ (p ≤ back) × (q ≤ ahead) × (back ≤ 64) × (ahead ≤ 64) ⌝ }
+    ensures { λ r. ⌜ (r ≡ true → p + q ≡ 0) ⌝ }
+{
+    if 0 < p + q {
+        return false;
+    }
+    if back != ahead {
+        return false;
+    }
+    if LONG <= n {
+        return false;
+    }
+    doubles_to(back)
+}
 
 // From the windows at `from` longer ones at `to`. The answer is their reach; how far it is, within `Towards`, is open: a caller goes on until
 // they reach far enough.
@@ -49,6 +92,11 @@ fn widen(
     ensures { λ r. ⌜ Widened op p q (r .back) (r .ahead) from to n count (now (buf .entry)) (now (buf .exit)) ⌝ }
     ensures { λ r. ⌜ Towards p q back ahead (r .back) (r .ahead) ⌝ }
 {
+    if takes_three(n, p, q, back, ahead) {
+        let three = stretch_sides(p, q, back, ahead);
+        fold_around(op, buf, from, to, n, count, three.back - p, three.ahead - q);
+        return three;
+    }
     let one = stretch(p, q, back, ahead);
     let s = one.back - p;
     let t = one.ahead - q;

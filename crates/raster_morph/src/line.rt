@@ -5,11 +5,12 @@ ghost use lib.ListN.{length};
 ghost use Rattle.window.specs.Store.{Filled, Lined};
 ghost use Rattle.raster_morph.specs.Operation.{operation};
 ghost use Rattle.window.specs.Ranges.{Apart};
-ghost use Rattle.raster_morph.specs.Growth.{earlier, later, paired, pairedTwice, edgedLine};
+ghost use Rattle.raster_morph.specs.Growth.{earlier, later, paired, around, pairedTwice, edgedLine};
 use super::Extreme;
 use super::fold::clear;
 use super::fold::fold_four;
 use super::fold::fold_shifted;
+use super::fold::fold_three;
 
 // The line s before v, or v where there is none.
 pub fn earlier_line(s: usize, v: usize) -> usize
@@ -55,6 +56,29 @@ pub fn fold_lines(
     fold_shifted(op, buf, from, to, first, last);
     fold_shifted(op, buf, from, to + first, middle, first + last);
     fold_shifted(op, buf, from + middle, to + first + middle, last, first);
+}
+
+// The same of three lines: the one s before it, the one t after it and itself.
+pub fn fold_around(
+    op: Extreme,
+    buf: &mut [u8],
+    from: usize,
+    to: usize,
+    n: usize,
+    count: usize,
+    s: usize,
+    t: usize,
+)
+    requires { ⌜ (from + count * n ≤ length (now buf)) × (to + count * n ≤ length (now buf)) × Apart from (count * n) to (count * n) × (s + t ≤ count) ⌝ }
+    ensures { λ _. ⌜ Lined (around (operation op) (now (buf .entry)) from n count s t) to n count (now (buf .entry)) (now (buf .exit)) ⌝ }
+{
+    let before = s * n;
+    let after = t * n;
+    let whole = count * n - before - after;
+    let own = from + before;
+    fold_shifted(op, buf, from, to, before, after);
+    fold_three(op, buf, from, own + after, own, to + before, whole);
+    fold_shifted(op, buf, from + whole, to + before + whole, after, before);
 }
 
 // Two growths of line v at once, by s and t and then by s2 and t2.

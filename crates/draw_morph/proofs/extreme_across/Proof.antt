@@ -1,5 +1,5 @@
 -- `draw_morph::extreme_across` meets its contract: each turn adds one row to the strip. Assumes nothing.
-use Prim.Native.Nat.{_-_, _*_, _≤_}
+use Prim.Native.Nat.{_+_, _-_, _*_, _≤_}
 use mathlib.Core.Path.{_≡_, refl, _∙_}
 use native.Mathlib.Omega.{arith}
 use borrow.Author.Needs.{needs}
@@ -19,7 +19,7 @@ use Rattle.draw_morph.proofs.extreme_across.Tie as tie
 
 abbrev Inv-loop : tie.InvT-loop
 Inv-loop op workspace source scratch₀ w h n input k left right top bottom width from to line₀ y₀ scratch line y =
-    (top ≤ y) × (y ≤ bottom) × (length line ≡ 2 * longestRow) × (length scratch ≡ length scratch₀)
+    (top ≤ y) × (y ≤ bottom) × (length line ≡ 2 * longestRow + 512) × (length scratch ≡ length scratch₀)
     × Strip (acrossOf (extremes op (k .back) (k .ahead)) w (stands w h source workspace input)) 0 left right top y scratch
 
 abbrev μ-loop : tie.MeasureT-loop

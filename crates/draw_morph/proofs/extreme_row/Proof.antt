@@ -6,7 +6,6 @@ use borrow.Author.Needs.{needs}
 use Rattle.pixel.proofs.Painting.{painted-as}
 use Rattle.draw_window.proofs.Channels.{row-pixel}
 use Rattle.draw_window.proofs.Strips.{whole-pixels}
-use Rattle.filter.specs.Limits.{longestSide}
 use Rattle.draw_morph.proofs.Extremes.{worked}
 use Rattle.draw_morph.proofs.extreme_row.Statement.{statement}
 use Rattle.draw_morph.proofs.extreme_row.Tie as tie
@@ -39,7 +38,7 @@ returns c =
     let W = worked _ _ _ _ _ _ _ _ _ _ K in
     painted-as _ _ _ _ _ _ _ (λ x l m.
     let i = a .skip + (x - a .at) in
-    row-pixel _ _ _ r (a .count) i (4 * (r / 4 + a .skip + (x - a .at))) W (omega (arith, whole-pixels r longestSide (K .place))) (omega arith))
+    row-pixel _ _ _ r (a .count) i (4 * (r / 4 + a .skip + (x - a .at))) W (omega (arith, whole-pixels r 1152 (K .place))) (omega arith))
     (c .before .before .copy-pixels .ensures)
 
 pub extreme-row-spec : {M : Type 1} → statement M

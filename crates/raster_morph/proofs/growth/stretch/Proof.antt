@@ -45,10 +45,10 @@ lesser-requires-3 : tie.Need-lesser-requires-3
 lesser-requires-3 c κs = tt
 
 add-t7 : tie.Need-add-t7
-add-t7 c = omega (arith, stretched c .towards .low)
+add-t7 c = omega (arith, stretched c .sides .towards .low)
 
 add-t12 : tie.Need-add-t12
-add-t12 c = omega (arith, stretched c .towards .high)
+add-t12 c = omega (arith, stretched c .sides .towards .high)
 
 returns : tie.Need-returns
 returns c = stretched c
