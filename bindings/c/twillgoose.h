@@ -6,13 +6,14 @@
  * a pixel changes: compare pictures only if both were drawn under the same number.
  *
  * A picture of W by H pixels (1 to 1,024 each) has 4 * W * H bytes: rows from top to bottom, four bytes R, G, B, A a
- * pixel, premultiplied (no colour above its alpha). A sheet has 1 to 16 steps, numbered from 0; step n draws layer n,
- * and the workspace holds the layers one after another.
+ * pixel, premultiplied (no colour above its alpha). A sheet has 1 to 64 steps, numbered from 0; step n draws layer n,
+ * and the workspace holds the layers one after another: 4 * W * H bytes for each step, up to 256 * W * H.
  *
  * A slice is a pointer and its length in bytes. Every length and every number is checked: what does not fit is refused,
  * and a refused render or redraw changes no byte of any slice. What the library cannot check is the caller's part: a
  * pointer is not null, not even with length 0, and has that many bytes behind it, and what is written does not overlap
- * anything else that is passed. Nothing is allocated; a call uses up to 160 KB of stack.
+ * anything else that is passed. Nothing is allocated; a call uses up to 160 KB of stack,
+ * twillgoose_sheet up to 230 KB.
  *
  * Steps are lines of text, each closed by a line feed, their fields parted by one tab: kind, x, y, width, height of its
  * region, inputs (src, alpha, or the number of an earlier step), numbers:
@@ -37,7 +38,7 @@
  * Answers, in the order of checking. The place is 0 unless said:
  *
  *      0  done
- *     15  a step line is not of the form; so are a seventeenth line,    place: the line, from 1
+ *     15  a step line is not of the form; so are a sixty-fifth line,    place: the line, from 1
  *         a flood's byte above 255 and a merge of 0 or 5 inputs
  *      1  width or height is 0 or above 1,024
  *      2  the source is not 4 * W * H bytes
@@ -54,6 +55,8 @@
  *     13  a region leaves the canvas                                    place: the step
  *     14  a colour exceeds its alpha: in the source, then in a          place: the pixel, from 0
  *         redraw in the workspace
+ *
+ * 21, which readers of lists of step records give after 15, cannot be met here: steps are lines.
  */
 #ifndef TWILLGOOSE_H
 #define TWILLGOOSE_H
@@ -66,7 +69,7 @@ extern "C" {
 #endif
 
 /* The rules that this header describes. */
-#define TWILLGOOSE_RULES 3
+#define TWILLGOOSE_RULES 4
 
 enum {
     TWILLGOOSE_DONE = 0,
@@ -114,7 +117,7 @@ uint64_t twillgoose_layer(size_t width, size_t height, size_t steps, size_t n, s
                           uint64_t *offset);
 
 /* Answers a whole sheet as text (a `canvas` line with two sides of 0 to 16, steps, rows of pixels), as the program `sheet`
- * does: `ok` and the last layer as rows, or `refused`, number and place. A text over 32,768 bytes is refused with 15 at
+ * does: `ok` and the last layer as rows, or `refused`, number and place. A text over 65,536 bytes is refused with 15 at
  * place 0. Returns the length of the answer, a refusal's too, which is stored at the start of `out` where it fits;
  * otherwise `out` is as it was. 2,371 bytes are enough for every answer. */
 uint64_t twillgoose_sheet(const uint8_t *text, size_t text_length,

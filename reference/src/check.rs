@@ -54,10 +54,16 @@ fn buffers(call: &Call, fault: Fault) -> Result<(), Answer> {
     let scratch = 8 * width * height;
     let scratch_is_wrong =
         if fault.is(Fault::LongScratchAllowed) { call.scratch.len() < scratch } else { call.scratch.len() != scratch };
+    let most = match fault {
+        Fault::MoreThanSixteen => 16,
+        Fault::SixtyFiveCounted => MOST_STEPS + 1,
+        _ => MOST_STEPS,
+    };
+    let layers = fault.choose(Fault::WorkspaceOfSixteen, steps, steps.min(16));
     let mut checks = [
         (2, call.source.len() != 4 * width * height),
-        (3, steps == 0 || steps > MOST_STEPS),
-        (4, call.workspace.len() != 4 * width * height * steps),
+        (3, steps == 0 || steps > most),
+        (4, call.workspace.len() != 4 * width * height * layers),
         (5, scratch_is_wrong),
         (6, outside),
     ];
@@ -86,7 +92,11 @@ fn used(step: &Step) -> &[Input] {
 /// "An input is not allowed, or merge has 0 or above 4": a layer needs "a smaller number than the step's own".
 fn inputs_are_wrong(n: usize, step: &Step, fault: Fault) -> bool {
     let (least, most) = step.kind.inputs();
-    let below = n + fault.choose(Fault::OwnLayerAllowed, 0, 1);
+    let below = match fault {
+        Fault::OwnLayerAllowed => n + 1,
+        Fault::LaterLayersRefused => n.min(16),
+        _ => n,
+    };
     let allowed = |input: &Input| !matches!(input, Input::Layer(layer) if *layer >= below);
     let used = used(step);
     used.len() < least || used.len() > most || !used.iter().all(allowed)

@@ -7,7 +7,7 @@ use crate::print;
 use crate::random::Random;
 use crate::render::{layer, redraw, render, Sheet};
 use crate::step::Region;
-use crate::text::{read_steps, LONGEST_TEXT};
+use crate::text::{steps_of, LONGEST_TEXT};
 
 /// The longest answer of `sheet` is far shorter.
 pub const ROOM: usize = 4096;
@@ -57,8 +57,8 @@ impl Renderer for Reference {
         scratch: &mut [u8],
         place: &mut u64,
     ) -> u64 {
-        let answer = read_steps(steps, self.0)
-            .map(|steps| render(Sheet { width, height, steps: &steps }, source, workspace, scratch, self.0));
+        let answer = steps_of(steps, self.0)
+            .map(|steps| render(Sheet::whole(width, height, &steps), source, workspace, scratch, self.0));
         told(answer.unwrap_or_else(|refused| refused), place)
     }
 
@@ -74,8 +74,8 @@ impl Renderer for Reference {
         place: &mut u64,
         count: &mut u64,
     ) -> u64 {
-        let redrawn = read_steps(steps, self.0)
-            .map(|steps| redraw(Sheet { width, height, steps: &steps }, rect, source, workspace, scratch, self.0));
+        let redrawn = steps_of(steps, self.0)
+            .map(|steps| redraw(Sheet::whole(width, height, &steps), rect, source, workspace, scratch, self.0));
         let (answer, worked) = redrawn.unwrap_or_else(|refused| (refused, 0));
         if answer == Answer::DONE || !self.0.is(Fault::RefusalKeepsCount) {
             *count = worked;
@@ -203,7 +203,8 @@ pub fn redraw_is_render(renderer: &dyn Renderer, case: &Case, random: &mut Rando
 
 pub fn same_view(renderer: &dyn Renderer, random: &mut Random) -> Result<(), String> {
     let side = |random: &mut Random| random.pick(&[0, 1, 2, 3, 7, 1024, 1025, usize::MAX]);
-    let (width, height, steps) = (side(random), side(random), random.pick(&[0, 1, 2, 3, 16, 17, usize::MAX]));
+    let (width, height, steps) =
+        (side(random), side(random), random.pick(&[0, 1, 2, 3, 16, 17, 63, 64, 65, usize::MAX]));
     let exact = width.wrapping_mul(height).wrapping_mul(4).wrapping_mul(steps);
     let length = exact.wrapping_add(random.pick(&[0, 0, 0, 1, 4, usize::MAX]));
     let n = random.pick(&[0, steps.wrapping_sub(1), steps, steps / 2, usize::MAX]);

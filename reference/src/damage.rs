@@ -81,7 +81,8 @@ pub fn rectangles(width: usize, height: usize, steps: &[Checked], named: Rect, f
         let inputs: Vec<Rect> = step.inputs.iter().map(of).collect();
         let full = reach(step, joined(&inputs, fault), fault).cut(canvas);
         let cut = full.cut(Rect::of(step.region));
-        let cut = if cut.is_empty() { Rect::EMPTY } else { cut };
+        let beyond = fault.is(Fault::RectsOfSixteen) && rects.len() >= 16;
+        let cut = if cut.is_empty() || beyond { Rect::EMPTY } else { cut };
         rects.push(fault.choose(Fault::RectNotCut, cut, full));
     }
     rects

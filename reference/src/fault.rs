@@ -1,17 +1,20 @@
 //! Seeded faults: wrong variants of the rules, one at a time, that the comparison must find.
 
 macro_rules! faults {
-    ($($name:ident: $text:literal,)*) => {
+    ({ $($name:ident: $text:literal,)* } { $($list:ident: $list_text:literal,)* }) => {
         /// Which rule is wrong; `None` is docs/RULES.md as it stands.
         #[derive(Clone, Copy, PartialEq, Eq, Debug)]
-        pub enum Fault { None, $(#[doc = $text] $name,)* }
+        pub enum Fault { None, $(#[doc = $text] $name,)* $(#[doc = $list_text] $list,)* }
 
-        /// Every fault and what it does.
+        /// Every fault that the comparison must find, and what it does.
         pub const ALL: &[(Fault, &str)] = &[$((Fault::$name, $text),)*];
+
+        /// Faults of lent lists. No call of the library takes a list, so that no comparison sees them; tests/lists.rs does.
+        pub const OF_LISTS: &[(Fault, &str)] = &[$((Fault::$list, $list_text),)*];
     };
 }
 
-faults! {
+faults! {{
     // Numbers
     SignAfterRounding: "the sign is judged after rounding",
     RangeAfterRounding: "the range is judged after rounding",
@@ -88,14 +91,20 @@ faults! {
     ScratchLeft: "scratch is not cleared",
     RefusalClears: "a refusal clears scratch",
     RefusalKeepsCount: "a refusal leaves the count as it was",
+    RectsOfSixteen: "steps after the sixteenth have an empty rectangle",
+    SixteenDrawn: "steps after the sixteenth are not drawn",
     ViewBeyondLast: "the view shows a layer after the last",
+    ViewOfSixteen: "the view shows the first sixteen layers only",
     // Refusals
     ThreeBeforeTwo: "3 is checked before 2",
     FiveBeforeFour: "5 is checked before 4",
     SixBeforeFive: "6 is checked before 5",
+    MoreThanSixteen: "more than 16 steps are refused 3",
+    WorkspaceOfSixteen: "the workspace is checked for at most 16 layers",
     LongScratchAllowed: "a longer scratch is accepted",
     EmptyRectAnywhere: "an empty rectangle may lie outside",
     EmptyRegionAnywhere: "an empty region may lie outside",
+    LaterLayersRefused: "a layer above 15 is refused as an input",
     OwnLayerAllowed: "a step may read its own layer",
     TwelveGiven: "a blur with a box of 61 bytes is refused 12",
     ThirteenFirst: "13 is checked before 7",
@@ -124,12 +133,25 @@ faults! {
     LinesAfterRows: "lines after the last row are accepted",
     LinesFromZero: "lines are counted from 0",
     MissingAtLast: "missing lines are refused at the last line",
-    SeventeenSteps: "a seventeenth step line is read",
+    SixtyFiveSteps: "a sixty-fifth step line is read",
+    SixtyThreeSteps: "the sixty-fourth step line is refused",
+    SeventeenthRefused: "the seventeenth step line is refused",
     SevenBeforeFifteen: "7 is given before 15",
-    LongTextRead: "a text over 32,768 bytes is read",
-    LongStepsRefused: "step lines over 32,768 bytes are refused at place 0",
+    LongTextRead: "a text over 65,536 bytes is read",
+    LongestTextRefused: "a text of 65,536 bytes is refused at place 0",
+    EarlierLength: "a text over 32,768 bytes is refused at place 0",
+    LongStepsRefused: "step lines over 65,536 bytes are refused at place 0",
     PrintedInPart: "an answer that does not fit is stored in part",
-}
+} {
+    ShortListFilled: "a list with fewer records takes the first steps",
+    FullListRefused: "a list with as many records as steps is refused",
+    TwentyOneFirst: "21 is given before 15",
+    TwentyOneAtStep: "21 has the first step without a record as its place",
+    StoredBeforeJudged: "steps are stored before the whole text is judged",
+    RestBlanked: "records past the steps are blanked",
+    WholeListCounts: "a list counts whole, whatever its count",
+    SixtyFiveCounted: "65 steps are not refused 3",
+}}
 
 impl Fault {
     pub fn is(self, fault: Fault) -> bool {

@@ -8,7 +8,7 @@
 //! - `pixel`, `window`, `filter`: the arithmetic of one pixel, neighbourhoods, the work of each kind
 //! - `rect`, `damage`: rectangles of a redraw and their count
 //! - `step`, `check`, `render`: sheets, the refusal table, the entry points
-//! - `text`, `print`: the text form and what `sheet` prints
+//! - `line`, `text`, `print`: the text form, the reader into a lent list, and what `sheet` prints
 //! - `fault`: wrong variants of the rules
 //! - `random`, `cases`: seeded sheets, pictures, calls and texts
 //! - `compare`, `budget`, `library`, `program`, `sums`: the comparison, its runs, what it is run against
@@ -22,6 +22,7 @@ pub mod fault;
 pub mod filter;
 #[cfg(feature = "library")]
 pub mod library;
+pub mod line;
 pub mod number;
 pub mod picture;
 pub mod pixel;

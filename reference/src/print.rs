@@ -5,25 +5,31 @@ use crate::fault::Fault;
 use crate::number::Number;
 use crate::render::{render, Sheet};
 use crate::step::{Input, Kind, Step};
-use crate::text::{read, Reading};
+use crate::text::{read, Limits, Reading, LIMITS};
 
 /// "It prints `ok` and the last layer as `row` lines, or one line: `refused`, number, place, parted by tabs."
 pub fn sheet(text: &[u8], fault: Fault) -> Vec<u8> {
-    match drawn(text, fault) {
+    sheet_within(text, LIMITS, fault)
+}
+
+/// The same by a reader of other limits.
+pub fn sheet_within(text: &[u8], limits: Limits, fault: Fault) -> Vec<u8> {
+    match drawn(text, limits, fault) {
         Ok((width, layer)) => format!("ok\n{}", rows(width, &layer)).into_bytes(),
         Err(answer) => format!("refused\t{}\t{}\n", answer.number, answer.place).into_bytes(),
     }
 }
 
 /// The canvas's width and the last layer of a text.
-fn drawn(text: &[u8], fault: Fault) -> Result<(usize, Vec<u8>), Answer> {
-    let Reading { width, height, steps, source } = read(text, fault)?;
+fn drawn(text: &[u8], limits: Limits, fault: Fault) -> Result<(usize, Vec<u8>), Answer> {
+    let mut list = vec![Step::BLANK; limits.steps];
+    let Reading { width, height, count, source } = read(text, &mut list, limits, fault)?;
     let size = 4 * width * height;
-    let mut workspace = vec![0; size * steps.len()];
+    let mut workspace = vec![0; size * count];
     let mut scratch = vec![0; 2 * size];
-    let sheet = Sheet { width, height, steps: &steps };
+    let sheet = Sheet { width, height, steps: &list, count };
     match render(sheet, &source, &mut workspace, &mut scratch, fault) {
-        Answer::DONE => Ok((width, workspace[size * (steps.len() - 1)..].to_vec())),
+        Answer::DONE => Ok((width, workspace[size * (count - 1)..].to_vec())),
         answer => Err(answer),
     }
 }

@@ -8,15 +8,27 @@ use crate::picture::Picture;
 use crate::rect::Rect;
 use crate::step::{Checked, Region, Step, MOST_STEPS};
 
-/// A sheet on a canvas.
+/// A sheet on a canvas: "a lent list of step records", of which the first `count` are its steps.
 #[derive(Clone, Copy)]
 pub struct Sheet<'a> {
     pub width: usize,
     pub height: usize,
     pub steps: &'a [Step],
+    pub count: usize,
 }
 
-impl Sheet<'_> {
+impl<'a> Sheet<'a> {
+    /// The sheet that a list is as a whole.
+    pub fn whole(width: usize, height: usize, steps: &'a [Step]) -> Sheet<'a> {
+        Sheet { width, height, steps, count: steps.len() }
+    }
+
+    /// Its steps: all, where the list has fewer records than the count says.
+    fn counted(&self, fault: Fault) -> &'a [Step] {
+        let all = self.steps.len();
+        &self.steps[..fault.choose(Fault::WholeListCounts, self.count.min(all), all)]
+    }
+
     fn checked(
         &self,
         rect: Option<Region>,
@@ -25,7 +37,8 @@ impl Sheet<'_> {
         scratch: &mut [u8],
         fault: Fault,
     ) -> Result<Vec<Checked>, Answer> {
-        let call = Call { width: self.width, height: self.height, steps: self.steps, rect, source, workspace, scratch };
+        let steps = self.counted(fault);
+        let call = Call { width: self.width, height: self.height, steps, rect, source, workspace, scratch };
         let steps = check(&call, fault);
         // "A refusal changes nothing that was lent"; scratch "is all zero after an accepted call".
         let clears = match steps {
@@ -48,7 +61,7 @@ pub fn render(sheet: Sheet, source: &[u8], workspace: &mut [u8], scratch: &mut [
     let blank = Picture::blank(sheet.width, sheet.height);
     let source = Picture::from_bytes(sheet.width, sheet.height, source);
     let mut stand = Stand::new(source, vec![blank.clone(); steps.len()], fault);
-    for (n, step) in steps.iter().enumerate() {
+    for (n, step) in drawn(&steps, fault) {
         let cut = fault.choose(
             Fault::RegionNotCut,
             Rect::of(step.region),
@@ -81,7 +94,7 @@ pub fn redraw(
         workspace.chunks_exact(size).map(|layer| Picture::from_bytes(sheet.width, sheet.height, layer)).collect();
     let mut stand = Stand::new(source.clone(), old.clone(), fault);
     let before = Stand::new(source, old, fault);
-    for (n, step) in steps.iter().enumerate() {
+    for (n, step) in drawn(&steps, fault) {
         let from = if fault.is(Fault::RedrawnFromOld) { &before } else { &stand };
         let rect = fault.choose(Fault::WholeRegionRedrawn, rects[n], Rect::of(step.region));
         let layer = patch(rect, &work(step, from, fault), &stand.layers[n]);
@@ -89,6 +102,11 @@ pub fn redraw(
     }
     store(&stand.layers, workspace);
     (Answer::DONE, count(&rects, named, fault))
+}
+
+/// Every step with its number.
+fn drawn(steps: &[Checked], fault: Fault) -> impl Iterator<Item = (usize, &Checked)> {
+    steps.iter().enumerate().take(fault.choose(Fault::SixteenDrawn, steps.len(), 16))
 }
 
 fn store(layers: &[Picture], workspace: &mut [u8]) {
@@ -101,6 +119,9 @@ fn store(layers: &[Picture], workspace: &mut [u8]) {
 /// of so many bytes.
 pub fn layer(width: usize, height: usize, steps: usize, n: usize, workspace: usize, fault: Fault) -> (usize, usize) {
     let sizes = side_is_wrong(width) || side_is_wrong(height) || steps == 0 || steps > MOST_STEPS;
+    if fault.is(Fault::ViewOfSixteen) && n >= 16 {
+        return (0, 0);
+    }
     if sizes || workspace != 4 * width * height * steps || n >= steps + fault.choose(Fault::ViewBeyondLast, 0, 1) {
         return (0, 0);
     }

@@ -3,8 +3,8 @@
 use crate::number::{Number, Range};
 use crate::pixel::Operator;
 
-/// "A sheet has 1 to 16 steps."
-pub const MOST_STEPS: usize = 16;
+/// "Raise the limit from 16 to 64": a sheet has 1 to 64 steps.
+pub const MOST_STEPS: usize = 64;
 
 /// "W and H are 1 to 1,024."
 pub const LONGEST_SIDE: usize = 1024;
@@ -71,6 +71,17 @@ pub struct Step {
     pub inputs: Vec<Input>,
     pub colour: [u8; 3],
     pub numbers: Vec<Number>,
+}
+
+impl Step {
+    /// A record that nothing was read into: a merge of nothing on an empty region.
+    pub const BLANK: Step = Step {
+        kind: Kind::Merge,
+        region: Region { x: 0, y: 0, width: 0, height: 0 },
+        inputs: Vec::new(),
+        colour: [0; 3],
+        numbers: Vec::new(),
+    };
 }
 
 const ZERO_TO_ONE: Range = Range { low: 0, high: 1, whole: false };

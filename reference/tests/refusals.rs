@@ -98,12 +98,31 @@ fn canvas() {
 
 #[test]
 fn numbers_of_steps() {
-    let mut given = Given::new(&COPY.repeat(16));
-    assert_eq!(given.answer(), (0, 0));
+    for count in [1, 16, 17, 63, 64] {
+        assert_eq!(Given::new(&COPY.repeat(count)).answer(), (0, 0));
+    }
+    let mut given = Given::new(&COPY.repeat(64));
     let again = given.steps[0].clone();
     given.steps.push(again);
-    given.workspace = vec![0; 16 * 17];
+    given.workspace = vec![0; 16 * 65];
     assert_eq!(given.answer(), (3, 0));
+    given.steps.clear();
+    given.workspace.clear();
+    assert_eq!(given.answer(), (3, 0));
+}
+
+/// Layers of every number, and a workspace for as many layers as there are steps.
+#[test]
+fn long_sheets() {
+    let chain: String =
+        (0..64).map(|n| if n == 0 { COPY.into() } else { format!("over 0 0 2 2 {} src\n", n - 1) }).collect();
+    let mut given = Given::new(&chain);
+    assert_eq!(given.answer(), (0, 0));
+    given.workspace = vec![0; 16 * 16];
+    assert_eq!(given.answer(), (4, 0));
+    given.workspace = vec![0; 16 * 64];
+    given.steps[63].inputs[0] = Input::Layer(63);
+    assert_eq!(given.answer(), (7, 63));
 }
 
 #[test]
@@ -226,12 +245,14 @@ fn view() {
     let shown = |width, height, steps, n, length| layer(width, height, steps, n, length, Fault::None);
     assert_eq!(shown(2, 3, 3, 0, 72), (0, 24));
     assert_eq!(shown(2, 3, 3, 2, 72), (48, 24));
+    assert_eq!(shown(1, 1, 17, 16, 68), (64, 4));
+    assert_eq!(shown(1, 1, 64, 63, 256), (252, 4));
     for (width, height, steps, n, length) in [
         (2, 3, 3, 3, 72),
         (2, 3, 3, 0, 71),
         (0, 3, 3, 0, 0),
         (2, 3, 0, 0, 0),
-        (1, 1, 17, 0, 68),
+        (1, 1, 65, 0, 260),
         (usize::MAX, 3, 3, 0, 72),
     ] {
         assert_eq!(shown(width, height, steps, n, length), (0, 0));

@@ -6,7 +6,7 @@ use reference::cases::{sheet, texts};
 use reference::fault::Fault;
 use reference::print;
 use reference::random::Random;
-use reference::text::{read_steps, LONGEST_TEXT};
+use reference::text::{steps_of, LONGEST_TEXT};
 
 fn printed(text: &str) -> String {
     let bytes = text.replace(' ', "\t").into_bytes();
@@ -49,17 +49,19 @@ fn empty_sides_and_sheets() {
 }
 
 #[test]
-fn sixteen_steps_and_one_more() {
+fn sixty_four_steps_and_one_more() {
     let step = "lumalpha 0 0 1 1 src\n";
-    assert_eq!(printed(&format!("canvas 1 1\n{}row 00000000\n", step.repeat(16))), OK);
-    refused(&format!("canvas 1 1\n{}row 00000000\n", step.repeat(17)), 15, 18);
     let tabs = step.replace(' ', "\t");
-    assert_eq!(read_steps(tabs.repeat(16).as_bytes(), Fault::None).map(|steps| steps.len()), Ok(16));
+    for count in [16, 17, 63, 64] {
+        assert_eq!(printed(&format!("canvas 1 1\n{}row 00000000\n", step.repeat(count))), OK);
+        assert_eq!(steps_of(tabs.repeat(count).as_bytes(), Fault::None).map(|steps| steps.len()), Ok(count));
+    }
+    refused(&format!("canvas 1 1\n{}row 00000000\n", step.repeat(65)), 15, 66);
     assert_eq!(
-        read_steps(tabs.repeat(17).as_bytes(), Fault::None).map_err(|answer| (answer.number, answer.place)),
-        Err((15, 17))
+        steps_of(tabs.repeat(65).as_bytes(), Fault::None).map_err(|answer| (answer.number, answer.place)),
+        Err((15, 65))
     );
-    assert_eq!(read_steps(b"", Fault::None), Ok(Vec::new()));
+    assert_eq!(steps_of(b"", Fault::None), Ok(Vec::new()));
 }
 
 #[test]
@@ -162,13 +164,23 @@ fn longest_text() {
     assert_eq!(print::sheet(&text, Fault::None), b"refused\t15\t0\n");
 }
 
+/// No text of the form comes near the limit: the longest has 64 steps of 273 bytes and 16 rows of 148.
+#[test]
+fn longest_text_of_the_form() {
+    let step = format!("matrix 9999 9999 9999 9999 alpha{}\n", " -99999.9999".repeat(20));
+    let row = format!("row{}\n", " 00000000".repeat(16));
+    let text = format!("canvas 16 16\n{}{}", step.repeat(64), row.repeat(16));
+    assert_eq!((step.len(), row.len(), text.len()), (273, 148, 19_853));
+    refused(&text, 10, 0);
+}
+
 #[test]
 fn what_is_written_is_read() {
     let mut random = Random::new(8);
-    for n in 0..2_000 {
-        let steps: Vec<_> = sheet(&mut random, 1 + n % 16, 7, 5, false);
+    for n in 0..1_000 {
+        let steps: Vec<_> = sheet(&mut random, 1 + n % 64, 7, 5, false);
         let text = print::steps(&steps, n % 5);
-        assert_eq!(read_steps(text.as_bytes(), Fault::None), Ok(steps));
+        assert_eq!(steps_of(text.as_bytes(), Fault::None), Ok(steps));
     }
 }
 

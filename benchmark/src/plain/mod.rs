@@ -39,7 +39,7 @@ fn sizes(call: &Call, steps: usize, named: Option<Region>) -> u64 {
     let outside = named.is_some_and(|r| r.x + r.width > call.width || r.y + r.height > call.height);
     let wrong = [
         (2, call.source.len() != size),
-        (3, steps == 0 || steps > 16),
+        (3, steps == 0 || steps > 64),
         (4, call.workspace.len() != size * steps),
         (5, call.scratch.len() != 2 * size),
         (6, outside),

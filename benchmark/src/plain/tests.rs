@@ -16,14 +16,14 @@ fn answer(answer: check::Answer, count: u64) -> Answer {
 
 impl Renderer for Second {
     fn render(&self, call: Call) -> Answer {
-        let steps = text::read_steps(call.steps, self.0).expect("well formed");
-        let sheet = Sheet { width: call.width, height: call.height, steps: &steps };
+        let steps = text::steps_of(call.steps, self.0).expect("well formed");
+        let sheet = Sheet::whole(call.width, call.height, &steps);
         answer(render(sheet, call.source, call.workspace, call.scratch, self.0), 0)
     }
 
     fn redraw(&self, call: Call, named: Region) -> Answer {
-        let steps = text::read_steps(call.steps, self.0).expect("well formed");
-        let sheet = Sheet { width: call.width, height: call.height, steps: &steps };
+        let steps = text::steps_of(call.steps, self.0).expect("well formed");
+        let sheet = Sheet::whole(call.width, call.height, &steps);
         let Region { x, y, width, height } = named;
         let rect = step::Region { x, y, width, height };
         let (said, count) = redraw(sheet, rect, call.source, call.workspace, call.scratch, self.0);

@@ -2,8 +2,8 @@
 //! meet its contract.
 //!
 //! A picture of `width` by `height` pixels (1 to 1,024 each) is a slice of [`picture_len`] bytes: rows from top to bottom,
-//! four bytes R, G, B, A a pixel, premultiplied, so that no colour exceeds its alpha. A sheet has 1 to 16 steps, numbered
-//! from 0; step n draws layer n, and the workspace holds the layers one after another.
+//! four bytes R, G, B, A a pixel, premultiplied, so that no colour exceeds its alpha. A sheet has 1 to 64 steps, numbered
+//! from 0; step n draws layer n, and the workspace holds the layers one after another ([`workspace_len`]).
 //!
 //! Steps are lines of text, each closed by a line feed, their fields parted by one tab: kind, x, y, width and height of
 //! the step's region, inputs (`src`, `alpha`, or the number of an earlier step), numbers.
@@ -38,8 +38,8 @@
 //! is an optional minus, 1 to 5 digits without leading zeros, optionally a point and 1 to 4 digits; or `x` and the eight
 //! lower-case hexadecimal digits of a single. It is checked as it stands, then rounded to the nearest 1/65,536. A single
 //! halfway between two goes to the even one; no decimal lies there. A [`Refusal`] says what is wrong with a call, and
-//! changes no byte that was lent. A seventeenth step line and a merge of 0 or 5 inputs are not of the form: they are
-//! refused as lines.
+//! changes no byte that was lent. A sixty-fifth step line and a merge of 0 or 5 inputs are not of the form: they are
+//! refused as lines. Refusal 21, which readers of lists of step records give, cannot be met here: steps are lines.
 
 #![warn(missing_docs)]
 
@@ -139,7 +139,7 @@ pub fn layer(width: usize, height: usize, steps: usize, n: usize, workspace: &[u
 
 /// The rules that this page describes. The number rises whenever an answer or a pixel changes: compare pictures only if
 /// both were drawn under the same number.
-pub const RULES: u64 = 3;
+pub const RULES: u64 = 4;
 
 /// The number of the rules that the library was built with, [`RULES`] where page and library belong together.
 pub fn rules() -> u64 {
@@ -150,7 +150,7 @@ pub fn rules() -> u64 {
 pub const LONGEST_ANSWER: usize = 3 + 16 * (4 + 16 * 9);
 
 /// Answers a whole sheet as text (a `canvas` line, step lines, rows of pixels), as the program `sheet` does: `ok` and the
-/// last layer as `row` lines, or one line of `refused`, number and place. A text over 32,768 bytes is refused with 15 at
+/// last layer as `row` lines, or one line of `refused`, number and place. A text over 65,536 bytes is refused with 15 at
 /// place 0.
 ///
 /// ```

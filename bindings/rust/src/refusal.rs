@@ -9,7 +9,7 @@ pub enum Refusal {
     Canvas,
     /// 2: the source's length is not 4 · width · height.
     Source,
-    /// 3: there is no step, or more than 16.
+    /// 3: there is no step. (More than 64 are refused as a line, 15.)
     StepCount,
     /// 4: the workspace's length is not 4 · width · height · steps.
     Workspace,
@@ -77,7 +77,7 @@ impl Display for Refusal {
         match self {
             Refusal::Canvas => write!(out, "width or height is 0 or above 1,024"),
             Refusal::Source => write!(out, "the source's length does not fit the canvas"),
-            Refusal::StepCount => write!(out, "a sheet has 1 to 16 steps"),
+            Refusal::StepCount => write!(out, "a sheet has 1 to 64 steps"),
             Refusal::Workspace => write!(out, "the workspace's length does not fit the canvas and the steps"),
             Refusal::Scratch => write!(out, "the scratch buffer's length does not fit the canvas"),
             Refusal::Rectangle => write!(out, "the rectangle is not inside the canvas"),

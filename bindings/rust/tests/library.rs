@@ -115,8 +115,50 @@ fn sheets_as_text() {
     let text = "canvas\t2\t1\nflood\t0\t0\t1\t1\t255\t0\t0\t0.5\nover\t0\t0\t2\t1\t0\tsrc\nrow\t0000ffff\t00000080\n";
     assert_eq!(sheet(text.as_bytes()), b"ok\nrow\t80007fff\t00000080\n");
     assert_eq!(sheet(b""), b"refused\t15\t1\n");
-    assert_eq!(sheet(&[0; 32_769]), b"refused\t15\t0\n");
+    assert_eq!(sheet(&[0; 65_537]), b"refused\t15\t0\n");
     let row = format!("row{}\n", "\t00000000".repeat(16)).repeat(16);
     let largest = format!("canvas\t16\t16\nlumalpha\t0\t0\t16\t16\tsrc\n{row}");
     assert_eq!(sheet(largest.as_bytes()).len(), twillgoose::LONGEST_ANSWER);
+}
+
+/// 64 steps on a row of four pixels: the alpha, then moved right and left in turn.
+fn long_steps(count: usize) -> String {
+    let moved = |n: usize| format!("offset 0 0 4 1 {} {} 0\n", n - 1, [-1, 1][n % 2]);
+    let rest: String = (1..count).map(moved).collect();
+    format!("offset 0 0 4 1 src 0 0\n{rest}")
+}
+
+#[test]
+fn sixty_four_steps() {
+    let source = alphas(&[10, 20, 30, 40]);
+    assert_eq!(workspace_len(4, 1, 64), 1_024);
+    assert_eq!(workspace_len(16, 16, 64), 65_536);
+    assert_eq!(workspace_len(1_024, 1_024, 64), 256 << 20);
+    let steps = long_steps(64);
+    let workspace = rendered(4, 1, &steps, &source).expect("accepted");
+    assert_eq!(layer(4, 1, 64, 16, &workspace), Some(&alphas(&[10, 20, 30, 0])[..]));
+    assert_eq!(layer(4, 1, 64, 63, &workspace), Some(&alphas(&[0, 10, 20, 30])[..]));
+    assert_eq!(layer(4, 1, 64, 64, &workspace), None);
+    let mut layers = workspace.clone();
+    let rect = Rect { x: 1, y: 0, width: 1, height: 1 };
+    assert_eq!(redraw(4, 1, lines(&steps), rect, &source, &mut layers, &mut [0; 32]), Ok(64));
+    assert_eq!(layers, workspace);
+}
+
+#[test]
+fn sixty_four_steps_as_text() {
+    let row = "row\t0000000a\t00000014\t0000001e\t00000028\n";
+    let text = |count: usize| format!("canvas\t4\t1\n{}{row}", lines(&long_steps(count)));
+    assert_eq!(sheet(text(64).as_bytes()), b"ok\nrow\t00000000\t0000000a\t00000014\t0000001e\n");
+    assert_eq!(sheet(text(17).as_bytes()), b"ok\nrow\t0000000a\t00000014\t0000001e\t00000000\n");
+    assert_eq!(sheet(text(65).as_bytes()), b"refused\t15\t66\n");
+}
+
+#[test]
+fn a_sixty_fifth_line() {
+    let source = alphas(&[10, 20, 30, 40]);
+    assert_eq!(rendered(4, 1, &long_steps(65), &source), Err(Refusal::Line(65)));
+    let mut layers = vec![0; workspace_len(4, 1, 16)];
+    let refused = render(4, 1, lines(&long_steps(17)), &source, &mut layers, &mut [0; 32]);
+    assert_eq!(refused, Err(Refusal::Workspace));
 }

@@ -4,14 +4,19 @@ ghost use mathlib.Core.Path.{_≡_};
 ghost use Prim.Native.Nat.{_+_, _≤_, _<_};
 ghost use lib.ListN.{length};
 use filter::Answer;
+use filter::Call;
 use filter::Region;
 use filter::Sheet;
+use lines::draw_lines;
 use tables::content::is_zero;
 use tables::content::sum;
 use tables::field::hex;
+use text::Form;
+use text::ReadAnswer;
+use text::reader::scan;
 
-// What a call is given besides its sheet and its buffers; the layer that is printed, and how.
-struct Call {
+// What an entry asks for besides its step lines and its buffers; the layer that is printed, and how.
+struct Entry {
     width: usize,
     height: usize,
     named: Region,
@@ -77,9 +82,15 @@ fn print_sums(workspace: &[u8], layer: &[u8]) {
 }
 
 // s: sums; x: the layer's pixels in hex; a: its alphas; any other: nothing.
-fn print_layer(call: Call, workspace: &[u8]) {
-    let layer = render::views::layer(call.width, call.height, call.count, call.layer, workspace);
-    let show = call.show;
+fn print_layer(entry: Entry, workspace: &[u8]) {
+    let layer = render::views::layer(
+        entry.width,
+        entry.height,
+        entry.count,
+        entry.layer,
+        workspace,
+    );
+    let show = entry.show;
     match show {
         115 => print_sums(workspace, layer),
         120 | 97 => print_bytes(show, layer),
@@ -87,47 +98,47 @@ fn print_layer(call: Call, workspace: &[u8]) {
     }
 }
 
-// A sheet rendered or redrawn, on buffers of its own, and its line.
+// Lines rendered or redrawn, on buffers of their own, and the line of that.
 
 fn print_answer(answer: Answer) {
     print_number(plan::answers::number(answer));
     print_number(plan::answers::place(answer) as u64);
 }
 
-fn print_redraw(call: Call, sheet: Sheet, source: &[u8], workspace: &mut [u8], scratch: &mut [u8]) {
-    let redrawn = render::redraw(
-        call.width,
-        call.height,
-        sheet,
-        call.named,
+fn call_of(entry: Entry) -> Call {
+    let named = entry.named;
+    if entry.redraw {
+        return Call::Redraw(named);
+    }
+    Call::Render
+}
+
+fn run(entry: Entry, text: &[u8], source: &[u8], workspace: &mut [u8], scratch: &mut [u8]) {
+    let drawn = draw_lines(
+        Form::Lines,
+        text,
+        call_of(entry),
+        entry.width,
+        entry.height,
         source,
         workspace,
         scratch,
     );
-    print_word(b" redraw");
-    let answer = redrawn.answer;
-    print_answer(answer);
-    print_number(redrawn.count as u64);
-}
-
-fn print_render(call: Call, sheet: Sheet, source: &[u8], workspace: &mut [u8], scratch: &mut [u8]) {
-    let answer = render::render(call.width, call.height, sheet, source, workspace, scratch);
-    print_word(b" render");
-    print_answer(answer);
-}
-
-fn run(call: Call, sheet: Sheet, source: &[u8], workspace: &mut [u8], scratch: &mut [u8]) {
-    if call.redraw {
-        print_redraw(call, sheet, source, workspace, scratch);
+    let answer = drawn.answer;
+    if entry.redraw {
+        print_word(b" redraw");
+        print_answer(answer);
+        print_number(drawn.count as u64);
     } else {
-        print_render(call, sheet, source, workspace, scratch);
+        print_word(b" render");
+        print_answer(answer);
     }
 }
 
 // The call is made on copies: layers of the workspace, spare of the scratch.
 fn print_on(
-    call: Call,
-    sheet: Sheet,
+    entry: Entry,
+    text: &[u8],
     source: &[u8],
     workspace: &[u8],
     scratch: &[u8],
@@ -138,15 +149,15 @@ fn print_on(
 {
     raster::row::copy(workspace, layers);
     raster::row::copy(scratch, spare);
-    run(call, sheet, source, layers, spare);
+    run(entry, text, source, layers, spare);
     print_change(workspace, &layers[..], false);
     print_change(scratch, &spare[..], is_zero(&spare[..]));
-    print_layer(call, &layers[..]);
+    print_layer(entry, &layers[..]);
     end_line();
 }
 
 // One call, a redraw or a render, and its line.
-fn print_call(call: Call, sheet: Sheet, source: &[u8], workspace: &[u8], scratch: &[u8])
+fn print_call(entry: Entry, text: &[u8], source: &[u8], workspace: &[u8], scratch: &[u8])
     requires { ⌜ (length (now workspace) ≤ 16384) × (length (now scratch) ≤ 4096) ⌝ }
 {
     let a = workspace.len();
@@ -154,8 +165,8 @@ fn print_call(call: Call, sheet: Sheet, source: &[u8], workspace: &[u8], scratch
     let mut layers = [0u8; 16384];
     let mut spare = [0u8; 4096];
     print_on(
-        call,
-        sheet,
+        entry,
+        text,
         source,
         workspace,
         scratch,
@@ -173,7 +184,7 @@ fn value(head: &[u8], i: usize) -> usize
     hex(head, 13 + 16 * i, 16) as usize
 }
 
-fn call_of(head: &[u8], redraw: bool) -> Call
+fn entry_of(head: &[u8], redraw: bool) -> Entry
     requires { ⌜ length (now head) ≡ 206 ⌝ }
 {
     let named = Region {
@@ -182,7 +193,7 @@ fn call_of(head: &[u8], redraw: bool) -> Call
         width: value(head, 4),
         height: value(head, 5),
     };
-    Call {
+    Entry {
         width: value(head, 0),
         height: value(head, 1),
         named,
@@ -193,26 +204,26 @@ fn call_of(head: &[u8], redraw: bool) -> Call
     }
 }
 
+fn print_refusal(name: &[u8], place: usize) {
+    print_word(name);
+    print_number(place as u64);
+    end_line();
+}
+
 fn print_entry(head: &[u8], text: &[u8], source: &[u8], workspace: &[u8], scratch: &[u8])
     requires { ⌜ (length (now head) ≡ 206) × (length (now workspace) ≤ 16384) × (length (now scratch) ≤ 4096) ⌝ }
 {
-    let read = text::reader::read_steps(text);
-    if read.good {
-        // The count is the entry's own: steps without a line are blank.
-        let steps = read.sheet.steps;
-        let sheet = Sheet {
-            steps,
-            count: value(head, 6),
-        };
-        print_word(&head[..12]);
-        print_call(call_of(head, false), sheet, source, workspace, scratch);
-        print_word(&head[..12]);
-        print_call(call_of(head, true), sheet, source, workspace, scratch);
-    } else {
-        print_word(&head[..12]);
-        print_word(b" text 15");
-        print_number(read.line as u64);
-        end_line();
+    let reading = scan(Form::Lines, text, Sheet::STEPS);
+    print_word(&head[..12]);
+    let answer = reading.answer;
+    match answer {
+        ReadAnswer::Done => {
+            print_call(entry_of(head, false), text, source, workspace, scratch);
+            print_word(&head[..12]);
+            print_call(entry_of(head, true), text, source, workspace, scratch);
+        }
+        ReadAnswer::Line(n) => print_refusal(b" text 15", n),
+        ReadAnswer::Records => print_refusal(b" text 21", 0),
     }
 }
 

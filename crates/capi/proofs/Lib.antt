@@ -1,2 +1,3 @@
--- Laws that the proofs of the library's functions cite.
-pub mod Formed
+-- Laws that the proofs of the functions cite.
+pub mod Replies
+pub mod Refused

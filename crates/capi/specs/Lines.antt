@@ -1,64 +1,69 @@
 -- Answers to calls whose steps are lines of text: refusal 15 at a line not of the form, before all others; else the sheet's own answer.
 -- Assumes nothing.
 use Prim.Native.Nat.{ℕ}
-use mathlib.Core.Bool.{Bool, cond, _&&_}
 use mathlib.Core.List.{List}
-use lib.ListN.{length}
 use Rattle.filter.specs.declared.Answer.{Answer}
+use Rattle.filter.specs.declared.Call.{Call}
+use Rattle.filter.specs.declared.Call.the-variants as C
 use Rattle.filter.specs.declared.Region.{Region}
 use Rattle.filter.specs.declared.Step.{Step}
-use Rattle.filter.specs.Answers.{numberOf, placeOf, accepted?}
-use Rattle.filter.specs.Checks.{answerOf, render, redraw}
-use Rattle.text.specs.Reading.{stepsOf}
-use Rattle.render.specs.Promise.{countOf}
+use Rattle.filter.specs.Answers.{numberOf, placeOf}
+use Rattle.text.specs.declared.Form.the-variants as F
+use Rattle.text.specs.declared.ReadAnswer as A
+use Rattle.text.specs.declared.ReadAnswer.the-variants.{Done, Line, Records}
+use Rattle.render.specs.Promise.{taken, ifAccepted, zeros}
+use Rattle.lines.specs.Lines.{readingIn, listIn, sheetIn, answerIn, workedIn, layersIn}
 use Rattle.capi.specs.declared.Redrawing.{Redrawing}
-use Rattle.capi.specs.declared.Reply.{Reply}
-
--- every line is of the form
-abbrev pub formed? : List ℕ → Bool
-formed? lines = stepsOf lines .good
 
 -- the steps of the lines, and how many
 abbrev pub stepsIn : List ℕ → List Step
-stepsIn lines = stepsOf lines .sheet .steps
+stepsIn lines = listIn F.Lines lines
 
 abbrev pub countIn : List ℕ → ℕ
-countIn lines = stepsOf lines .sheet .count
+countIn lines = taken (sheetIn F.Lines lines 0 0) (stepsIn lines)
 
 -- the answer to a full render of the lines' sheet
 abbrev pub renderAnswer : ℕ → ℕ → List ℕ → List ℕ → List ℕ → List ℕ → Answer
-renderAnswer w h lines src ws scratch = answerOf w h (stepsIn lines) (countIn lines) render src ws (length scratch)
+renderAnswer w h lines src ws scr = answerIn F.Lines lines C.Render w h src ws scr
 
 -- the answer to its redraw of the rectangle g
 abbrev pub redrawAnswer : ℕ → ℕ → List ℕ → Region → List ℕ → List ℕ → List ℕ → Answer
-redrawAnswer w h lines g src ws scratch = answerOf w h (stepsIn lines) (countIn lines) (redraw g) src ws (length scratch)
+redrawAnswer w h lines g src ws scr = answerIn F.Lines lines (C.Redraw g) w h src ws scr
 
--- "For text, 15 comes before all others"
-unfoldable pub numberFor : List ℕ → Answer → ℕ
-numberFor lines a = cond (formed? lines) (numberOf a) 15
+-- "For text, 15 comes before all others", and 21 straight after it; "line, from 1"
+abbrev pub numberAfter : A.ReadAnswer → Answer → ℕ
+numberAfter Done a = numberOf a
+numberAfter (Line n) a = 15
+numberAfter Records a = 21
 
--- of 15 "line, from 1"
-unfoldable pub placeFor : List ℕ → Answer → ℕ
-placeFor lines a = cond (formed? lines) (placeOf a) (stepsOf lines .line)
-
--- "a call is accepted when its number is 0"
-unfoldable pub drawn? : List ℕ → Answer → Bool
-drawn? lines a = formed? lines && accepted? a
-
--- "A refusal changes nothing that was lent."
-unfoldable pub ifDrawn : List ℕ → Answer → List ℕ → List ℕ → List ℕ
-ifDrawn lines a new old = cond (drawn? lines a) new old
-
--- "a count (0 when refused)"
-unfoldable pub countFor : List ℕ → Answer → ℕ → ℕ → Region → ℕ
-countFor lines a w h g = cond (formed? lines) (countOf a w h (stepsIn lines) (countIn lines) g) 0
+abbrev pub placeAfter : A.ReadAnswer → Answer → ℕ
+placeAfter Done a = placeOf a
+placeAfter (Line n) a = n
+placeAfter Records a = 0
 
 -- the answers by value
-abbrev pub replyOf : List ℕ → Answer → Reply
-replyOf lines a = record { number = numberFor lines a; place = placeFor lines a }
+unfoldable pub replied : A.ReadAnswer → Answer → ℕ → Redrawing
+replied said a n = record { number = numberAfter said a; place = placeAfter said a; count = n }
 
-abbrev pub redrawingOf : List ℕ → Answer → ℕ → ℕ → Region → Redrawing
-redrawingOf lines a w h g = record { number = numberFor lines a; place = placeFor lines a; count = countFor lines a w h g }
+unfoldable pub numberFor : List ℕ → Answer → ℕ
+numberFor lines a = numberAfter (readingIn F.Lines lines .answer) a
+
+unfoldable pub placeFor : List ℕ → Answer → ℕ
+placeFor lines a = placeAfter (readingIn F.Lines lines .answer) a
+
+-- what a call answers, and what it leaves
+abbrev pub answerTo : Call → ℕ → ℕ → List ℕ → List ℕ → List ℕ → List ℕ → Answer
+answerTo call w h lines src ws scr = answerIn F.Lines lines call w h src ws scr
+
+abbrev pub replyOf : Call → ℕ → ℕ → List ℕ → List ℕ → List ℕ → List ℕ → Redrawing
+replyOf call w h lines src ws scr =
+    replied (readingIn F.Lines lines .answer) (answerTo call w h lines src ws scr) (workedIn (answerTo call w h lines src ws scr) F.Lines lines call w h)
+
+abbrev pub layersTo : Call → ℕ → ℕ → List ℕ → List ℕ → List ℕ → List ℕ → List ℕ
+layersTo call w h lines src ws scr = layersIn (answerTo call w h lines src ws scr) F.Lines lines call w h src ws
+
+abbrev pub clearedTo : Call → ℕ → ℕ → List ℕ → List ℕ → List ℕ → List ℕ → List ℕ
+clearedTo call w h lines src ws scr = ifAccepted (answerTo call w h lines src ws scr) (zeros scr) scr
 
 -- a rectangle by its four numbers
 abbrev pub region : ℕ → ℕ → ℕ → ℕ → Region

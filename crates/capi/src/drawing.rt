@@ -1,74 +1,86 @@
-// Steps read from lines, then drawn.
+// Steps read from lines and drawn: the answer by value.
 use super::Redrawing;
-use super::Reply;
-use filter::Region;
+use filter::Answer;
+use filter::Call;
+use lines::draw_lines;
 use plan::answers::number;
 use plan::answers::place;
-use render::redraw;
-use render::render;
-use text::reader::read_steps;
+use text::Form;
+use text::ReadAnswer;
 ghost use mathlib.Core.Path.{_≡_};
 ghost use mathlib.Core.Bool.{true};
-ghost use Rattle.render.specs.Promise.{layerBytes, redrawnBytes, zeros, Redraws, AllValid};
-ghost use Rattle.capi.specs.Lines.{stepsIn, countIn, renderAnswer, redrawAnswer, replyOf, redrawingOf, drawn?, ifDrawn};
+ghost use Rattle.filter.specs.Answers.{accepted?};
+ghost use Rattle.text.specs.declared.Form.the-variants as F;
+ghost use Rattle.lines.specs.Lines.{RedrawsIn, ValidIn};
+ghost use Rattle.capi.specs.Lines.{replied, answerTo, replyOf, layersTo, clearedTo};
 
-pub fn render_lines(
-    width: usize,
-    height: usize,
-    steps: &[u8],
-    source: &[u8],
-    workspace: &mut [u8],
-    scratch: &mut [u8],
-) -> Reply
-    ensures answers { λ r. ⌜ r ≡ replyOf (now (steps .entry)) (renderAnswer width height (now (steps .entry)) (now (source .entry)) (now (workspace .entry)) (now (scratch .entry))) ⌝ }
-    ensures layers { λ _. ⌜ now (workspace .exit) ≡ ifDrawn (now (steps .entry)) (renderAnswer width height (now (steps .entry)) (now (source .entry)) (now (workspace .entry)) (now (scratch .entry))) (layerBytes width height (stepsIn (now (steps .entry))) (countIn (now (steps .entry))) (now (source .entry))) (now (workspace .entry)) ⌝ }
-    ensures cleared { λ _. ⌜ now (scratch .exit) ≡ ifDrawn (now (steps .entry)) (renderAnswer width height (now (steps .entry)) (now (source .entry)) (now (workspace .entry)) (now (scratch .entry))) (zeros (now (scratch .entry))) (now (scratch .entry)) ⌝ }
-    ensures valid { λ _. ⌜ (drawn? (now (steps .entry)) (renderAnswer width height (now (steps .entry)) (now (source .entry)) (now (workspace .entry)) (now (scratch .entry))) ≡ true → AllValid width height (countIn (now (steps .entry))) (now (workspace .exit))) ⌝ }
+// The sheet's own number and place.
+fn own_reply(answer: Answer, count: usize) -> Redrawing
+    ensures { λ r. ⌜ r ≡ replied ReadAnswer.Done answer count ⌝ }
 {
-    let t = read_steps(steps);
-    if !t.good {
-        return Reply {
-            number: 15,
-            place: t.line,
-        };
-    }
-    let sheet = t.sheet;
-    let a = render(width, height, sheet, source, workspace, scratch);
-    Reply {
-        number: number(a),
-        place: place(a),
+    Redrawing {
+        number: number(answer),
+        place: place(answer),
+        count,
     }
 }
 
-pub fn redraw_lines(
+fn line_reply(answer: Answer, line: usize, count: usize) -> Redrawing
+    ensures { λ r. ⌜ r ≡ replied (ReadAnswer.Line line) answer count ⌝ }
+{
+    Redrawing {
+        number: 15,
+        place: line,
+        count,
+    }
+}
+
+fn records_reply(answer: Answer, count: usize) -> Redrawing
+    ensures { λ r. ⌜ r ≡ replied ReadAnswer.Records answer count ⌝ }
+{
+    Redrawing {
+        number: 21,
+        place: 0,
+        count,
+    }
+}
+
+fn reply(reading: ReadAnswer, answer: Answer, count: usize) -> Redrawing
+    ensures { λ r. ⌜ r ≡ replied reading answer count ⌝ }
+{
+    match reading {
+        ReadAnswer::Done => own_reply(answer, count),
+        ReadAnswer::Line(line) => line_reply(answer, line, count),
+        ReadAnswer::Records => records_reply(answer, count),
+    }
+}
+
+pub fn call_lines(
+    call: Call,
     width: usize,
     height: usize,
     steps: &[u8],
-    named: Region,
     source: &[u8],
     workspace: &mut [u8],
     scratch: &mut [u8],
 ) -> Redrawing
-    ensures answers { λ r. ⌜ r ≡ redrawingOf (now (steps .entry)) (redrawAnswer width height (now (steps .entry)) named (now (source .entry)) (now (workspace .entry)) (now (scratch .entry))) width height named ⌝ }
-    ensures layers { λ _. ⌜ now (workspace .exit) ≡ ifDrawn (now (steps .entry)) (redrawAnswer width height (now (steps .entry)) named (now (source .entry)) (now (workspace .entry)) (now (scratch .entry))) (redrawnBytes width height (stepsIn (now (steps .entry))) (countIn (now (steps .entry))) named (now (workspace .entry)) (now (source .entry))) (now (workspace .entry)) ⌝ }
-    ensures cleared { λ _. ⌜ now (scratch .exit) ≡ ifDrawn (now (steps .entry)) (redrawAnswer width height (now (steps .entry)) named (now (source .entry)) (now (workspace .entry)) (now (scratch .entry))) (zeros (now (scratch .entry))) (now (scratch .entry)) ⌝ }
-    ensures redraws { λ _. ⌜ (drawn? (now (steps .entry)) (redrawAnswer width height (now (steps .entry)) named (now (source .entry)) (now (workspace .entry)) (now (scratch .entry))) ≡ true → Redraws width height (stepsIn (now (steps .entry))) (countIn (now (steps .entry))) named (now (source .entry)) (now (workspace .entry)) (now (workspace .exit))) ⌝ }
-    ensures valid { λ _. ⌜ (drawn? (now (steps .entry)) (redrawAnswer width height (now (steps .entry)) named (now (source .entry)) (now (workspace .entry)) (now (scratch .entry))) ≡ true → AllValid width height (countIn (now (steps .entry))) (now (workspace .exit))) ⌝ }
+    ensures answers { λ r. ⌜ r ≡ replyOf call width height (now (steps .entry)) (now (source .entry)) (now (workspace .entry)) (now (scratch .entry)) ⌝ }
+    ensures layers { λ _. ⌜ now (workspace .exit) ≡ layersTo call width height (now (steps .entry)) (now (source .entry)) (now (workspace .entry)) (now (scratch .entry)) ⌝ }
+    ensures cleared { λ _. ⌜ now (scratch .exit) ≡ clearedTo call width height (now (steps .entry)) (now (source .entry)) (now (workspace .entry)) (now (scratch .entry)) ⌝ }
+    ensures redraws { λ _. ⌜ (accepted? (answerTo call width height (now (steps .entry)) (now (source .entry)) (now (workspace .entry)) (now (scratch .entry))) ≡ true → RedrawsIn F.Lines (now (steps .entry)) call width height (now (source .entry)) (now (workspace .entry)) (now (workspace .exit))) ⌝ }
+    ensures valid { λ _. ⌜ (accepted? (answerTo call width height (now (steps .entry)) (now (source .entry)) (now (workspace .entry)) (now (scratch .entry))) ≡ true → ValidIn F.Lines (now (steps .entry)) width height (now (workspace .exit))) ⌝ }
 {
-    let t = read_steps(steps);
-    if !t.good {
-        return Redrawing {
-            number: 15,
-            place: t.line,
-            count: 0,
-        };
-    }
-    let sheet = t.sheet;
-    let r = redraw(width, height, sheet, named, source, workspace, scratch);
-    let a = r.answer;
-    Redrawing {
-        number: number(a),
-        place: place(a),
-        count: r.count,
-    }
+    let drawn = draw_lines(
+        Form::Lines,
+        steps,
+        call,
+        width,
+        height,
+        source,
+        workspace,
+        scratch,
+    );
+    let reading = drawn.reading;
+    let answer = drawn.answer;
+    reply(reading, answer, drawn.count)
 }

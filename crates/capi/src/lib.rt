@@ -1,33 +1,28 @@
 // The library for C and Rust: the entry points on numbers and byte slices, steps as lines of text. A slice passes as pointer, then
 // length. Nothing is asked beforehand: what cannot be drawn is refused with the number and place of RULES 7.2, and a refused render or redraw
-// changes no byte of a slice. A line not of the form is 15 at its line, a seventeenth step line too; the answer to a whole text is stored in `out`.
+// changes no byte of a slice. A line not of the form is 15 at its line, a sixty-fifth step line too; the answer to a whole text is stored in `out`.
 mod drawing;
 
-use drawing::redraw_lines;
-use drawing::render_lines;
+use drawing::call_lines;
+use filter::Call;
 use filter::Region;
 ghost use mathlib.Core.Path.{_≡_};
 ghost use mathlib.Core.Bool.{true, cond};
 ghost use Prim.Native.Nat.{_≤_};
 ghost use lib.Dec.{leb};
 ghost use lib.ListN.{length};
-ghost use Rattle.render.specs.Promise.{layerBytes, redrawnBytes, zeros, Redraws, AllValid};
+ghost use Rattle.filter.specs.Answers.{accepted?};
+ghost use Rattle.render.specs.Promise.{ifAccepted, layerBytes, redrawnBytes, countOf, zeros, Redraws, AllValid};
 ghost use Rattle.render.specs.View.{viewAt};
-ghost use Rattle.text.specs.Many.{stored};
+ghost use Rattle.text_step.specs.Many.{stored};
 ghost use Rattle.text_answer.specs.Answer.{longest, printedOf};
-ghost use Rattle.capi.specs.Lines.{stepsIn, countIn, renderAnswer, redrawAnswer, numberFor, placeFor, countFor, drawn?, ifDrawn, region};
+ghost use Rattle.capi.specs.Lines.{stepsIn, countIn, renderAnswer, redrawAnswer, numberFor, placeFor, region};
 ghost use Rattle.capi.specs.Rules.{rulesNumber};
 
 // The rules of this build: RULES.md names them at its head.
-pub const RULES: u64 = 3;
+pub const RULES: u64 = 4;
 
-// Number and place of an answer.
-pub struct Reply {
-    pub number: u64,
-    pub place: usize,
-}
-
-// Those of a redraw, and how many pixels were worked.
+// Number and place of an answer, and how many pixels a redraw worked.
 pub struct Redrawing {
     pub number: u64,
     pub place: usize,
@@ -47,11 +42,19 @@ pub extern "C" fn twillgoose_render(
 ) -> u64
     ensures number { λ r. ⌜ r ≡ numberFor (now (steps .entry)) (renderAnswer width height (now (steps .entry)) (now (source .entry)) (now (workspace .entry)) (now (scratch .entry))) ⌝ }
     ensures place { λ _. ⌜ now (place .exit) ≡ placeFor (now (steps .entry)) (renderAnswer width height (now (steps .entry)) (now (source .entry)) (now (workspace .entry)) (now (scratch .entry))) ⌝ }
-    ensures layers { λ _. ⌜ now (workspace .exit) ≡ ifDrawn (now (steps .entry)) (renderAnswer width height (now (steps .entry)) (now (source .entry)) (now (workspace .entry)) (now (scratch .entry))) (layerBytes width height (stepsIn (now (steps .entry))) (countIn (now (steps .entry))) (now (source .entry))) (now (workspace .entry)) ⌝ }
-    ensures cleared { λ _. ⌜ now (scratch .exit) ≡ ifDrawn (now (steps .entry)) (renderAnswer width height (now (steps .entry)) (now (source .entry)) (now (workspace .entry)) (now (scratch .entry))) (zeros (now (scratch .entry))) (now (scratch .entry)) ⌝ }
-    ensures valid { λ _. ⌜ (drawn? (now (steps .entry)) (renderAnswer width height (now (steps .entry)) (now (source .entry)) (now (workspace .entry)) (now (scratch .entry))) ≡ true → AllValid width height (countIn (now (steps .entry))) (now (workspace .exit))) ⌝ }
+    ensures layers { λ _. ⌜ now (workspace .exit) ≡ ifAccepted (renderAnswer width height (now (steps .entry)) (now (source .entry)) (now (workspace .entry)) (now (scratch .entry))) (layerBytes width height (stepsIn (now (steps .entry))) (countIn (now (steps .entry))) (now (source .entry))) (now (workspace .entry)) ⌝ }
+    ensures cleared { λ _. ⌜ now (scratch .exit) ≡ ifAccepted (renderAnswer width height (now (steps .entry)) (now (source .entry)) (now (workspace .entry)) (now (scratch .entry))) (zeros (now (scratch .entry))) (now (scratch .entry)) ⌝ }
+    ensures valid { λ _. ⌜ (accepted? (renderAnswer width height (now (steps .entry)) (now (source .entry)) (now (workspace .entry)) (now (scratch .entry))) ≡ true → AllValid width height (countIn (now (steps .entry))) (now (workspace .exit))) ⌝ }
 {
-    let rendered = render_lines(width, height, steps, source, workspace, scratch);
+    let rendered = call_lines(
+        Call::Render,
+        width,
+        height,
+        steps,
+        source,
+        workspace,
+        scratch,
+    );
     *place = rendered.place as u64;
     rendered.number
 }
@@ -74,11 +77,11 @@ pub extern "C" fn twillgoose_redraw(
 ) -> u64
     ensures number { λ r. ⌜ r ≡ numberFor (now (steps .entry)) (redrawAnswer width height (now (steps .entry)) (region x y columns rows) (now (source .entry)) (now (workspace .entry)) (now (scratch .entry))) ⌝ }
     ensures place { λ _. ⌜ now (place .exit) ≡ placeFor (now (steps .entry)) (redrawAnswer width height (now (steps .entry)) (region x y columns rows) (now (source .entry)) (now (workspace .entry)) (now (scratch .entry))) ⌝ }
-    ensures count { λ _. ⌜ now (count .exit) ≡ countFor (now (steps .entry)) (redrawAnswer width height (now (steps .entry)) (region x y columns rows) (now (source .entry)) (now (workspace .entry)) (now (scratch .entry))) width height (region x y columns rows) ⌝ }
-    ensures layers { λ _. ⌜ now (workspace .exit) ≡ ifDrawn (now (steps .entry)) (redrawAnswer width height (now (steps .entry)) (region x y columns rows) (now (source .entry)) (now (workspace .entry)) (now (scratch .entry))) (redrawnBytes width height (stepsIn (now (steps .entry))) (countIn (now (steps .entry))) (region x y columns rows) (now (workspace .entry)) (now (source .entry))) (now (workspace .entry)) ⌝ }
-    ensures cleared { λ _. ⌜ now (scratch .exit) ≡ ifDrawn (now (steps .entry)) (redrawAnswer width height (now (steps .entry)) (region x y columns rows) (now (source .entry)) (now (workspace .entry)) (now (scratch .entry))) (zeros (now (scratch .entry))) (now (scratch .entry)) ⌝ }
-    ensures redraws { λ _. ⌜ (drawn? (now (steps .entry)) (redrawAnswer width height (now (steps .entry)) (region x y columns rows) (now (source .entry)) (now (workspace .entry)) (now (scratch .entry))) ≡ true → Redraws width height (stepsIn (now (steps .entry))) (countIn (now (steps .entry))) (region x y columns rows) (now (source .entry)) (now (workspace .entry)) (now (workspace .exit))) ⌝ }
-    ensures valid { λ _. ⌜ (drawn? (now (steps .entry)) (redrawAnswer width height (now (steps .entry)) (region x y columns rows) (now (source .entry)) (now (workspace .entry)) (now (scratch .entry))) ≡ true → AllValid width height (countIn (now (steps .entry))) (now (workspace .exit))) ⌝ }
+    ensures count { λ _. ⌜ now (count .exit) ≡ countOf (redrawAnswer width height (now (steps .entry)) (region x y columns rows) (now (source .entry)) (now (workspace .entry)) (now (scratch .entry))) width height (stepsIn (now (steps .entry))) (countIn (now (steps .entry))) (region x y columns rows) ⌝ }
+    ensures layers { λ _. ⌜ now (workspace .exit) ≡ ifAccepted (redrawAnswer width height (now (steps .entry)) (region x y columns rows) (now (source .entry)) (now (workspace .entry)) (now (scratch .entry))) (redrawnBytes width height (stepsIn (now (steps .entry))) (countIn (now (steps .entry))) (region x y columns rows) (now (workspace .entry)) (now (source .entry))) (now (workspace .entry)) ⌝ }
+    ensures cleared { λ _. ⌜ now (scratch .exit) ≡ ifAccepted (redrawAnswer width height (now (steps .entry)) (region x y columns rows) (now (source .entry)) (now (workspace .entry)) (now (scratch .entry))) (zeros (now (scratch .entry))) (now (scratch .entry)) ⌝ }
+    ensures redraws { λ _. ⌜ (accepted? (redrawAnswer width height (now (steps .entry)) (region x y columns rows) (now (source .entry)) (now (workspace .entry)) (now (scratch .entry))) ≡ true → Redraws width height (stepsIn (now (steps .entry))) (countIn (now (steps .entry))) (region x y columns rows) (now (source .entry)) (now (workspace .entry)) (now (workspace .exit))) ⌝ }
+    ensures valid { λ _. ⌜ (accepted? (redrawAnswer width height (now (steps .entry)) (region x y columns rows) (now (source .entry)) (now (workspace .entry)) (now (scratch .entry))) ≡ true → AllValid width height (countIn (now (steps .entry))) (now (workspace .exit))) ⌝ }
 {
     let named = Region {
         x,
@@ -86,7 +89,15 @@ pub extern "C" fn twillgoose_redraw(
         width: columns,
         height: rows,
     };
-    let redrawn = redraw_lines(width, height, steps, named, source, workspace, scratch);
+    let redrawn = call_lines(
+        Call::Redraw(named),
+        width,
+        height,
+        steps,
+        source,
+        workspace,
+        scratch,
+    );
     *place = redrawn.place as u64;
     *count = redrawn.count as u64;
     redrawn.number

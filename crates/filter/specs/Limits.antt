@@ -4,7 +4,7 @@ pub use Rattle.window.specs.Limits.{longestSide, longestRow, mostPixels}
 
 -- the steps of a sheet, at most (RULES 2.3)
 abbrev pub mostSteps : ℕ
-mostSteps = 16
+mostSteps = 64
 
 -- a side of a text's canvas, at most, and the bytes of such a picture (RULES 9.2)
 abbrev pub longestTextSide : ℕ
@@ -15,4 +15,4 @@ textPicture = 4 * (longestTextSide * longestTextSide)
 
 -- the bytes of a text, at most (RULES 9.6)
 abbrev pub longestText : ℕ
-longestText = 32768
+longestText = 65536

@@ -3,3 +3,6 @@ pub mod Regions
 pub mod Standing
 pub mod Rendering
 pub mod Redrawing
+pub mod Progress
+pub mod Answered
+pub mod DrawLoop

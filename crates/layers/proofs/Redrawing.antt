@@ -4,27 +4,25 @@ use mathlib.Core.Path.{_≡_, refl, sym, ap, ap₂, _∙_}
 use mathlib.Core.List.{List}
 use native.Mathlib.Omega.{arith}
 use lib.ListN.{length}
-use Rattle.filter.specs.declared.Input.the-variants.{Layer}
 use Rattle.filter.specs.declared.Rect.{Rect}
 use Rattle.filter.specs.declared.Step.{Step}
-use Rattle.filter.specs.Rect.{In, canvasOf}
+use Rattle.filter.specs.Rect.{canvasOf}
 use Rattle.filter.specs.Picture.{Picture, patch}
 use Rattle.filter.specs.Effect.{Env, Effect}
-use Rattle.filter.specs.Layers.{bounds, result, damage, damages, redrawn}
+use Rattle.filter.specs.Layers.{result, damage, damages, redrawn}
 use Rattle.filter.specs.Steps.{effectOf, effectsOf, stepAt}
 use Rattle.filter.specs.Bytes.{size, read, Holds, redrawnOf}
 use Rattle.filter.specs.Earlier.{AgreeBefore}
-use Rattle.filter.specs.Accepted.{Within, AcceptedStep}
 use Rattle.filter.specs.Valid.{FloodBytes}
-use Rattle.filter.proofs.Joins.{damages-inside}
-use Rattle.filter.proofs.Redraws.{damages-layer, redrawn-layer}
+use Rattle.filter.proofs.Redraws.{redrawn-layer}
 use Rattle.filter.proofs.Validity.{step-valid}
 use Rattle.filter.proofs.ValidLayers.{redrawn-valid}
-use Rattle.stage.specs.Buffers.{stands, Sized, ValidInputs}
+use Rattle.stage.specs.Buffers.{stands}
 use Rattle.stage.specs.Stood.{Stood}
 use Rattle.stage.proofs.Agree.{valid-agree}
 use Rattle.stage.proofs.Upto.{Upto, upto-none, upto-more, upto-holds}
 use Rattle.layers.specs.Ready.{Ready, ValidLayers}
+use Rattle.layers.specs.Next.{StepReady}
 use Rattle.layers.proofs.Standing.{upto-agree, result-same, ready-sized}
 
 module _ (w h : ℕ) (steps : List Step) (count : ℕ) (r : Rect) (src ws scr : List ℕ) where
@@ -54,27 +52,25 @@ module _ (w h : ℕ) (steps : List Step) (count : ℕ) (r : Rect) (src ws scr : 
 
   -- one more step, in its rectangle
   module _ (R : Ready w h steps count src ws scr) (n : ℕ) (l : n < count) (d s : List ℕ) (G : Redrawing n d s)
-      (step : Step) (is : step ≡ stepAt steps n) (rect : Rect) (rect-is : rect ≡ damages (canvasOf w h) effects r count (Layer n)) where
+      (step : Step) (is : step ≡ stepAt steps n) where
     agree : AgreeBefore n (stands w h src d) (after n)
     unfolding redrawn
     agree = upto-agree w h src after (λ k. patch (damage (canvasOf w h) (effects k) (damages (canvasOf w h) effects r k)) (result (canvasOf w h) (effects k) (after k)) (old k)) refl (λ m. refl) n count (omega arith) d (G .done)
 
-    pub redrawing-ready : ((k : ℕ) → FloodBytes (stepAt steps k .kind)) → ValidLayers w h count ws → Within w h rect
-        → Sized w h n src d × (length s ≡ 2 * size w h) × ValidInputs n (stands w h src d) × AcceptedStep w h n step
-        × ((x y : ℕ) → In rect x y → In (bounds (canvasOf w h) (effectOf w h step)) x y) × Within w h rect
-    redrawing-ready floods olds k = (
-      ready-sized w h steps count src ws scr R n l d (G .long),
-      G .scratch ∙ R .scratch,
-      valid-agree n _ _ agree
-          (record { valid = λ i t. redrawn-valid (canvasOf w h) effects (read w h src 0) (R .valid) r old n (λ m q. step-valid w h (stepAt steps m) (floods m)) (λ m q. olds .valid m (omega arith)) i }),
-      rw is (R .sheet .each n l),
-      rw (is, rect-is) (damages-inside (canvasOf w h) effects r n count l .covers),
-      k,
-    )
+    pub redrawing-ready : ((k : ℕ) → k < count → FloodBytes (stepAt steps k .kind)) → ValidLayers w h count ws → StepReady w h n step src d s
+    redrawing-ready floods olds = record {
+      sized = ready-sized w h steps count src ws scr R n l d (G .long);
+      scratch = G .scratch ∙ R .scratch;
+      inputs =
+          valid-agree n _ _ agree
+          (record { valid = λ i t. redrawn-valid (canvasOf w h) effects (read w h src 0) (R .valid) r old n (λ m q. step-valid w h (stepAt steps m) (floods m (omega arith))) (λ m q. olds .valid m (omega arith)) i });
+      accepted = rw is (R .sheet .each n l);
+    }
 
-    pub redrawing-more : (d′ s′ : List ℕ) → Stood w h n (patch rect (result (canvasOf w h) (effectOf w h step) (stands w h src d)) (read w h d (n * size w h))) d d′
+    pub redrawing-more : (rect : Rect) → rect ≡ damage (canvasOf w h) (effects n) (damages (canvasOf w h) effects r n) → (d′ s′ : List ℕ)
+        → Stood w h n (patch rect (result (canvasOf w h) (effectOf w h step) (stands w h src d)) (read w h d (n * size w h))) d d′
         → length s′ ≡ length s → Redrawing (n + 1) d′ s′
-    redrawing-more d′ s′ T e = record {
+    redrawing-more rect rect-is d′ s′ T e = record {
       long = T .long ∙ G .long;
       scratch = e ∙ G .scratch;
       done = upto-more w h n _ _ d d′ layer-is (G .done) T;
@@ -88,6 +84,6 @@ module _ (w h : ℕ) (steps : List Step) (count : ℕ) (r : Rect) (src ws scr : 
 
         layer-is : patch rect (result (canvasOf w h) (effectOf w h step) (stands w h src d)) (read w h d (n * size w h)) ≡ redrawnOf w h steps count r ws src n
         layer-is =
-            ap₂ (λ (q : Rect) (p : Picture). patch q p (read w h d (n * size w h))) (rect-is ∙ damages-layer (canvasOf w h) effects r n count l) result-is
+            ap₂ (λ (q : Rect) (p : Picture). patch q p (read w h d (n * size w h))) rect-is result-is
             ∙ ap (patch (damage (canvasOf w h) (effects n) (damages (canvasOf w h) effects r n)) (result (canvasOf w h) (effects n) (after n))) (G .rest n (omega arith))
             ∙ sym (redrawn-layer (canvasOf w h) effects r old (read w h src 0) n count l)

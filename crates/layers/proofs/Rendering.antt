@@ -11,16 +11,16 @@ use Rattle.filter.specs.Layers.{result, rendered}
 use Rattle.filter.specs.Steps.{effectOf, effectsOf, stepAt}
 use Rattle.filter.specs.Bytes.{size, read, Holds, layersOf}
 use Rattle.filter.specs.Earlier.{AgreeBefore}
-use Rattle.filter.specs.Accepted.{AcceptedStep}
 use Rattle.filter.specs.Valid.{FloodBytes}
 use Rattle.filter.proofs.Redraws.{rendered-layer}
 use Rattle.filter.proofs.Validity.{step-valid}
 use Rattle.filter.proofs.ValidLayers.{rendered-valid}
-use Rattle.stage.specs.Buffers.{stands, Sized, ValidInputs}
+use Rattle.stage.specs.Buffers.{stands}
 use Rattle.stage.specs.Stood.{Stood}
 use Rattle.stage.proofs.Agree.{valid-agree}
 use Rattle.stage.proofs.Upto.{Upto, upto-none, upto-more, upto-holds}
 use Rattle.layers.specs.Ready.{Ready}
+use Rattle.layers.specs.Next.{StepReady}
 use Rattle.layers.proofs.Standing.{upto-agree, result-same, ready-sized}
 
 module _ (w h : ℕ) (steps : List Step) (count : ℕ) (src ws scr : List ℕ) where
@@ -51,14 +51,15 @@ module _ (w h : ℕ) (steps : List Step) (count : ℕ) (src ws scr : List ℕ) w
     unfolding rendered
     agree = upto-agree w h src after (λ k. result (canvasOf w h) (effects k) (after k)) refl (λ m. refl) n count (omega arith) d (G .done)
 
-    pub rendering-ready : ((k : ℕ) → FloodBytes (stepAt steps k .kind))
-        → Sized w h n src d × (length s ≡ 2 * size w h) × ValidInputs n (stands w h src d) × AcceptedStep w h n step
-    rendering-ready floods = (
-      ready-sized w h steps count src ws scr R n l d (G .long),
-      G .scratch ∙ R .scratch,
-      valid-agree n _ _ agree (record { valid = λ i t. rendered-valid (canvasOf w h) effects (read w h src 0) (R .valid) n (λ k m. step-valid w h (stepAt steps k) (floods k)) i }),
-      rw is (R .sheet .each n l),
-    )
+    pub rendering-ready : ((k : ℕ) → k < count → FloodBytes (stepAt steps k .kind)) → StepReady w h n step src d s
+    rendering-ready floods = record {
+      sized = ready-sized w h steps count src ws scr R n l d (G .long);
+      scratch = G .scratch ∙ R .scratch;
+      inputs =
+          valid-agree n _ _ agree
+          (record { valid = λ i t. rendered-valid (canvasOf w h) effects (read w h src 0) (R .valid) n (λ k m. step-valid w h (stepAt steps k) (floods k (omega arith))) i });
+      accepted = rw is (R .sheet .each n l);
+    }
 
     pub rendering-more : (d′ s′ : List ℕ) → Stood w h n (result (canvasOf w h) (effectOf w h step) (stands w h src d)) d d′ → length s′ ≡ length s → Rendering (n + 1) d′ s′
     rendering-more d′ s′ T e = record {

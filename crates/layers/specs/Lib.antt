@@ -1,2 +1,4 @@
--- What the loops over the steps of a sheet may rely on.
+-- What a checked call asks of its steps, and what they leave.
 pub mod Ready
+pub mod Drawing
+pub mod Next

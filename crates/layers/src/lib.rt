@@ -1,60 +1,69 @@
-// The layers of a sheet, drawn step after step: each of them whole, or in its redraw rectangle only.
+// The steps of a sheet, which stand in a lent list: checked one after another, then drawn, each layer whole or in its redraw rectangle only.
 pub mod steps;
 
 ghost use mathlib.Core.Path.{_≡_};
-ghost use Rattle.window.specs.Store.{WorkBuffer};
-ghost use Rattle.filter.specs.Rect.{canvasOf, boundsOf};
-ghost use Rattle.filter.specs.Layers.{count as countOf};
-ghost use Rattle.filter.specs.Steps.{effectsOf};
-ghost use Rattle.filter.specs.Bytes.{Holds, layersOf, redrawnOf};
-ghost use Rattle.filter.specs.Accepted.{OnCanvas};
-ghost use Rattle.layers.specs.Ready.{Ready, ValidLayers};
-use filter::Region;
+ghost use mathlib.Core.Bool.{true};
+ghost use Prim.Native.Nat.{ℕ, _<_, _≤_};
+ghost use lib.ListN.{length};
+ghost use Rattle.filter.specs.Answers.{accepted?};
+ghost use Rattle.filter.specs.Checks.{stepsAnswer};
+ghost use Rattle.filter.specs.Steps.{stepAt};
+ghost use Rattle.filter.specs.Valid.{FloodBytes};
+ghost use Rattle.layers.specs.Drawing.{ReadyFor, Drawing};
+use filter::Answer;
+use filter::Call;
 use filter::Sheet;
+use filter::Step;
+use plan::Damages;
+use plan::checks::check_next;
+use plan::damage::no_damages;
+use steps::draw_next;
 
-// The layers of a sheet, step after step.
-pub fn render_layers(
-    workspace: &mut [u8],
-    source: &[u8],
-    scratch: &mut [u8],
-    w: usize,
-    h: usize,
-    sheet: Sheet,
-)
-    requires { ⌜ Ready w h (sheet .steps) (sheet .count) (now source) (now workspace) (now scratch) ⌝ }
-    ensures { λ _. ⌜ Holds w h (sheet .count) (now (workspace .exit)) (layersOf w h (sheet .steps) (sheet .count) (now (source .entry))) ⌝ }
-    ensures { λ _. ⌜ WorkBuffer (now (scratch .entry)) (now (scratch .exit)) ⌝ }
+// Checks 7 to 11 and 13 of the first `count` steps.
+pub fn check_steps(width: usize, height: usize, steps: &[Step], count: usize) -> Answer
+    requires { ⌜ count ≤ length (now steps) ⌝ }
+    ensures answers { λ o. ⌜ o ≡ stepsAnswer width height (now (steps .entry)) count ⌝ }
+    ensures floods { λ _. ⌜ ((k : ℕ) → k < count → FloodBytes (stepAt (now (steps .entry)) k .kind)) ⌝ }
 {
-    let count = sheet.count;
-    for n in 0..count {
-        let step = sheet.steps[n];
-        steps::render_step(workspace, source, scratch, w, h, n, step);
+    let mut answer = Answer::Done;
+    let mut n: usize = 0;
+    while n < count {
+        answer = check_next(answer, width, height, n, steps[n]);
+        n = n + 1;
     }
+    answer
 }
 
-// The redraw rectangles of a sheet, drawn step after step. The answer is the count of the pixels worked.
-pub fn redraw_layers(
-    workspace: &mut [u8],
-    source: &[u8],
-    scratch: &mut [u8],
-    w: usize,
-    h: usize,
+// The steps of a call, drawn; none where it is refused. The count is that of the pixels a redraw works.
+pub fn draw_steps(
+    call: Call,
     sheet: Sheet,
-    named: Region,
-) -> usize
-    requires { ⌜ Ready w h (sheet .steps) (sheet .count) (now source) (now workspace) (now scratch) × ValidLayers w h (sheet .count) (now workspace) × OnCanvas w h named ⌝ }
-    ensures { λ c. ⌜ c ≡ countOf (canvasOf w h) (effectsOf w h (sheet .steps)) (boundsOf named) (sheet .count) ⌝ }
-    ensures { λ _. ⌜ Holds w h (sheet .count) (now (workspace .exit)) (redrawnOf w h (sheet .steps) (sheet .count) (boundsOf named) (now (workspace .entry)) (now (source .entry))) ⌝ }
-    ensures { λ _. ⌜ WorkBuffer (now (scratch .entry)) (now (scratch .exit)) ⌝ }
+    answer: Answer,
+    steps: &[Step],
+    source: &[u8],
+    workspace: &mut [u8],
+    scratch: &mut [u8],
+) -> Damages
+    requires { ⌜ sheet .count ≤ length (now steps) ⌝ }
+    requires { ⌜ (accepted? answer ≡ true → ReadyFor call sheet (now steps) (now source) (now workspace) (now scratch)) ⌝ }
+    ensures { λ d. ⌜ Drawing call sheet answer (now (steps .entry)) (now (source .entry)) (now (workspace .entry)) (now (scratch .entry)) (now (workspace .exit)) (now (scratch .exit)) (d .count) ⌝ }
 {
-    let layers = sheet.count;
-    let damages = plan::damage::damages(w, h, sheet, named);
-    let rects = damages.rects;
-    let worked = damages.count;
-    for n in 0..layers {
-        let step = sheet.steps[n];
-        let r = rects[n];
-        steps::redraw_step(workspace, source, scratch, w, h, n, step, r);
+    let count = sheet.count;
+    let mut damages = no_damages();
+    let mut n: usize = 0;
+    while n < count {
+        damages = draw_next(
+            call,
+            sheet,
+            answer,
+            n,
+            steps[n],
+            damages,
+            source,
+            &mut *workspace,
+            &mut *scratch,
+        );
+        n = n + 1;
     }
-    worked
+    damages
 }

@@ -1,4 +1,4 @@
-// One step of a full render, and one of a redraw.
+// One step of a full render, one of a redraw, and one of either.
 ghost use mathlib.Core.Path.{_≡_};
 ghost use Prim.Native.Nat.{ℕ, _*_};
 ghost use lib.ListN.{length};
@@ -11,10 +11,21 @@ ghost use Rattle.filter.specs.Accepted.{Within, AcceptedStep};
 ghost use Rattle.filter.specs.Bytes.{size, read};
 ghost use Rattle.stage.specs.Buffers.{stands, Sized, ValidInputs};
 ghost use Rattle.stage.specs.Stood.{Stood};
+ghost use mathlib.Core.Bool.{true};
+ghost use Rattle.filter.specs.Answers.{accepted?};
+ghost use Rattle.layers.specs.Next.{StepReady, RectsReady, NextReady, Rendered, Redrawn, NextDrawn, ScratchAfter};
 use draw::clear_around;
 use draw::draw;
+use filter::Answer;
+use filter::Call;
 use filter::Rect;
+use filter::Region;
+use filter::Sheet;
 use filter::Step;
+use plan::Damages;
+use plan::answers::is_accepted;
+use plan::damage::step_damage;
+use plan::damage::with_damage;
 use plan::rectangle::bounds;
 use plan::resolve::resolve;
 
@@ -54,4 +65,87 @@ pub fn redraw_step(
     ensures { λ _. ⌜ WorkBuffer (now (scratch .entry)) (now (scratch .exit)) ⌝ }
 {
     draw(workspace, source, scratch, w, h, n, resolve(step), rect);
+}
+
+fn render_next(
+    sheet: Sheet,
+    n: usize,
+    step: Step,
+    damages: Damages,
+    source: &[u8],
+    workspace: &mut [u8],
+    scratch: &mut [u8],
+) -> Damages
+    requires { ⌜ StepReady (sheet .width) (sheet .height) n step (now source) (now workspace) (now scratch) ⌝ }
+    ensures { λ o. ⌜ Rendered (sheet .width) (sheet .height) n step (now (source .entry)) (now (workspace .entry)) (now (workspace .exit)) damages o ⌝ }
+    ensures { λ _. ⌜ WorkBuffer (now (scratch .entry)) (now (scratch .exit)) ⌝ }
+{
+    render_step(
+        workspace,
+        source,
+        scratch,
+        sheet.width,
+        sheet.height,
+        n,
+        step,
+    );
+    damages
+}
+
+// Its rectangle is worked out from those so far, and joins them.
+fn redraw_next(
+    sheet: Sheet,
+    named: Region,
+    n: usize,
+    step: Step,
+    damages: Damages,
+    source: &[u8],
+    workspace: &mut [u8],
+    scratch: &mut [u8],
+) -> Damages
+    requires { ⌜ StepReady (sheet .width) (sheet .height) n step (now source) (now workspace) (now scratch) ⌝ }
+    requires { ⌜ RectsReady (sheet .width) (sheet .height) n named damages ⌝ }
+    ensures { λ o. ⌜ Redrawn (sheet .width) (sheet .height) n named step (now (source .entry)) (now (workspace .entry)) (now (workspace .exit)) damages o ⌝ }
+    ensures { λ _. ⌜ WorkBuffer (now (scratch .entry)) (now (scratch .exit)) ⌝ }
+{
+    let w = sheet.width;
+    let h = sheet.height;
+    let rects = damages.rects;
+    let rect = step_damage(w, h, step, bounds(named), rects);
+    redraw_step(workspace, source, scratch, w, h, n, step, rect);
+    with_damage(damages, n, rect)
+}
+
+// Step n of a call; where the call is refused nothing changes.
+pub fn draw_next(
+    call: Call,
+    sheet: Sheet,
+    answer: Answer,
+    n: usize,
+    step: Step,
+    damages: Damages,
+    source: &[u8],
+    workspace: &mut [u8],
+    scratch: &mut [u8],
+) -> Damages
+    requires { ⌜ (accepted? answer ≡ true → NextReady call sheet n step damages (now source) (now workspace) (now scratch)) ⌝ }
+    ensures { λ o. ⌜ NextDrawn call sheet answer n step (now (source .entry)) (now (workspace .entry)) (now (workspace .exit)) damages o ⌝ }
+    ensures { λ _. ⌜ ScratchAfter answer (now (scratch .entry)) (now (scratch .exit)) ⌝ }
+{
+    if !is_accepted(answer) {
+        return damages;
+    }
+    match call {
+        Call::Render => render_next(sheet, n, step, damages, source, workspace, scratch),
+        Call::Redraw(named) => redraw_next(
+            sheet,
+            named,
+            n,
+            step,
+            damages,
+            source,
+            workspace,
+            scratch,
+        ),
+    }
 }

@@ -1,41 +1,126 @@
--- From the pictures that the loops leave to the promises on bytes. Assumes nothing.
-use Prim.Native.Nat.{ℕ, _+_, _*_, _<_}
-use mathlib.Core.Path.{_≡_, refl, sym, ap, _∙_}
-use mathlib.Core.Bool.{true, false, cond}
-use mathlib.Core.List.{List}
+-- From the pictures that the loop leaves to the promises on bytes. Assumes nothing.
+use Prim.Native.Nat.{ℕ, _*_, _<_}
+use mathlib.Core.Path.{_≡_, refl, sym, ap, _∙_, subst}
+use mathlib.Core.Bool.{Bool, true, false, cond, false≢true}
+use mathlib.Core.List.{List, [], _∷_}
+use lib.ListN.{length, replicate}
 use Rattle.filter.specs.declared.Answer.{Answer}
+use Rattle.filter.specs.declared.Call.{Call}
+use Rattle.filter.specs.declared.Call.the-variants as C
 use Rattle.filter.specs.declared.Region.{Region}
+use Rattle.filter.specs.declared.Sheet.{Sheet}
 use Rattle.filter.specs.declared.Step.{Step}
 use Rattle.filter.specs.Picture.{Picture}
 use Rattle.filter.specs.Rect.{boundsOf}
-use Rattle.filter.specs.Bytes.{Holds, read, bytesOf, layersOf, redrawnOf}
+use Rattle.filter.specs.Bytes.{size, read, Holds, layersOf, redrawnOf}
 use Rattle.filter.specs.Valid.{ValidPicture}
-use Rattle.filter.proofs.Concat.{bytes-hold}
+use Rattle.filter.proofs.Concat.{bytes-hold, holds-bytes}
 use Rattle.filter.proofs.Demand.{redraw-buffers, redraw-keeps}
-use Rattle.filter.specs.Answers.{accepted?}
-use Rattle.render.specs.Promise.{ifAccepted, layerBytes, Redraws, AllValid}
+use Rattle.filter.proofs.ValidLayers.{layers-valid, redrawn-layers-valid}
+use Rattle.filter.specs.Answers.{accepted?, numberOf, placeOf}
+use Rattle.lent.proofs.SaysAnd.{AllOf}
+use Rattle.layers.specs.Drawing.{ReadyFor, Drawing, drawnOf, countFor}
+use Rattle.render.specs.declared.Redrawn.{Redrawn}
+use Rattle.render.specs.Code.{usableOf}
+use Rattle.render.specs.Promise.{taken, answered, asNumber, asPlace, ifAccepted, layerBytes, drawnBytes, ifDrawn, worked, zeros, Redraws, RedrawsFor, AllValid}
 
 pub if-accepted : (a : Answer) (new old d : List ℕ) → accepted? a ≡ true → d ≡ new → d ≡ ifAccepted a new old
 if-accepted a new old d e f = rw e f
 
-pub if-refused : (a : Answer) (new old : List ℕ) → accepted? a ≡ false → old ≡ ifAccepted a new old
-if-refused a new old e = rw e
-
-pub count-accepted : (a : Answer) (n k : ℕ) → accepted? a ≡ true → k ≡ n → k ≡ cond (accepted? a) n 0
-count-accepted a n k e f = rw e f
-
-pub count-refused : (a : Answer) (n : ℕ) → accepted? a ≡ false → 0 ≡ cond (accepted? a) n 0
-count-refused a n e = rw e
+pub if-refused : (a : Answer) (new old d : List ℕ) → accepted? a ≡ false → d ≡ old → d ≡ ifAccepted a new old
+if-refused a new old d e f = rw e f
 
 -- valid pictures, so valid bytes
-pub holds-valid : (w h n : ℕ) (d : List ℕ) (p : ℕ → Picture) → Holds w h n d p → ((k : ℕ) → ValidPicture (p k)) → AllValid w h n d
+holds-valid : (w h n : ℕ) (d : List ℕ) (p : ℕ → Picture) → Holds w h n d p → ((k : ℕ) → ValidPicture (p k)) → AllValid w h n d
 holds-valid w h n d p H ok = record { valid = λ k x y lk lx ly. rw (H .same k x y lk lx ly) (ok k .valid x y) }
 
 -- demand 3
-pub redraws : (w h : ℕ) (steps : List Step) (n : ℕ) (g : Region) (src before after : List ℕ)
+redraws : (w h : ℕ) (steps : List Step) (n : ℕ) (g : Region) (src before after : List ℕ)
     → Holds w h n after (redrawnOf w h steps n (boundsOf g) before src) → Redraws w h steps n g src before after
 redraws w h steps n g src before after H = record {
   current = λ old same held. redraw-buffers w h steps n (boundsOf g) old src before after (layerBytes w h steps n src) same
       (rw held (bytes-hold w h n (layersOf w h steps n old))) H (bytes-hold w h n (layersOf w h steps n src));
   elsewhere = redraw-keeps w h steps n (boundsOf g) src before after H;
 }
+
+-- all that is promised of a call that ends with r, the workspace d and the scratch buffer z
+abbrev pub Promises : Call → Sheet → List Step → List ℕ → List ℕ → List ℕ → Redrawn → List ℕ → List ℕ → List (Type 0)
+Promises call s steps src ws scr r d z =
+    (numberOf (r .answer) ≡ asNumber call s steps src ws scr)
+    ∷ (placeOf (r .answer) ≡ asPlace call s steps src ws scr)
+    ∷ (r .count ≡ worked (r .answer) call s steps)
+    ∷ (d ≡ ifDrawn (r .answer) call s steps src ws)
+    ∷ (z ≡ ifAccepted (r .answer) (zeros scr) scr)
+    ∷ (accepted? (r .answer) ≡ true → RedrawsFor call s steps src ws d)
+    ∷ (accepted? (r .answer) ≡ true → AllValid (s .width) (s .height) (taken s steps) d)
+    ∷ []
+
+abbrev pub Promised : Call → Sheet → List Step → List ℕ → List ℕ → List ℕ → Redrawn → List ℕ → List ℕ → Type 0
+Promised call s steps src ws scr r d z = AllOf (r .answer ≡ answered call s steps src ws scr) (Promises call s steps src ws scr r d z)
+
+-- a sheet with so many steps
+abbrev pub with : Sheet → ℕ → Sheet
+with s n = record { width = s .width; height = s .height; count = n }
+
+module _ (call : Call) (s : Sheet) (steps : List Step) (src ws scr : List ℕ) (a : Answer) (d z : List ℕ) (total : ℕ) where
+  abbrev n : ℕ
+  n = taken s steps
+
+  -- an accepted call
+  module _ (t : accepted? a ≡ true) (R : ReadyFor call (with s n) steps src ws scr) (D : Drawing call (with s n) a steps src ws scr d z total) where
+    abbrev H : Holds (s .width) (s .height) n d (drawnOf call (s .width) (s .height) steps n ws src)
+    H = D .drawn t .0
+
+    bytes : d ≡ drawnBytes call s steps src ws
+    unfolding drawnBytes
+    bytes = go call H
+      where
+        go : (c : Call) → Holds (s .width) (s .height) n d (drawnOf c (s .width) (s .height) steps n ws src) → d ≡ drawnBytes c s steps src ws
+        go C.Render k = holds-bytes (s .width) (s .height) n _ d k
+        go (C.Redraw g) k = holds-bytes (s .width) (s .height) n _ d k
+
+    counts : total ≡ worked a call s steps
+    unfolding worked
+    counts = go call (D .drawn t .2)
+      where
+        go : (c : Call) → total ≡ countFor c (s .width) (s .height) steps n → total ≡ worked a c s steps
+        go C.Render k = k
+        go (C.Redraw g) k = rw t k
+
+    current : RedrawsFor call s steps src ws d
+    current g q = redraws (s .width) (s .height) steps n g src ws d (subst (λ (c : Call). Holds (s .width) (s .height) n d (drawnOf c (s .width) (s .height) steps n ws src)) q H)
+
+    valid : AllValid (s .width) (s .height) n d
+    valid = holds-valid (s .width) (s .height) n d _ H (go call (λ g q. R .redraw g q .0 .valid))
+      where
+        go : (c : Call) → ((g : Region) → c ≡ C.Redraw g → (k : ℕ) → k < n → ValidPicture (read (s .width) (s .height) ws (k * size (s .width) (s .height)))) → (k : ℕ) → ValidPicture (drawnOf c (s .width) (s .height) steps n ws src k)
+        go C.Render old k = layers-valid (s .width) (s .height) steps n (R .floods) src (R .ready .valid) k
+        go (C.Redraw g) old k = redrawn-layers-valid (s .width) (s .height) steps n (R .floods) src (R .ready .valid) (boundsOf g) ws (old g refl) k
+
+  -- a refused one
+  refused-counts : accepted? a ≡ false → total ≡ 0 → total ≡ worked a call s steps
+  unfolding worked
+  refused-counts e k = go call
+    where
+      go : (c : Call) → total ≡ worked a c s steps
+      go C.Render = k
+      go (C.Redraw g) = rw e k
+
+  -- z is the scratch buffer after the work, z′ after it was cleared
+  pub promised : (z′ : List ℕ) (r : Redrawn) → a ≡ answered call s steps src ws scr → (accepted? a ≡ true → usableOf n ≡ n)
+      → (accepted? a ≡ true → ReadyFor call (with s n) steps src ws scr)
+      → Drawing call (with s (usableOf n)) a steps src ws scr d z total → r ≡ record { answer = a; count = total }
+      → z′ ≡ ifAccepted a (zeros z) z → Promised call s steps src ws scr r d z′
+  promised z′ r fa all R D fr fz = subst (λ (x : Redrawn). Promised call s steps src ws scr x d z′) (sym fr) (go (accepted? a) refl)
+    where
+      said : total ≡ worked a call s steps → d ≡ ifDrawn a call s steps src ws → z′ ≡ ifAccepted a (zeros scr) scr → (accepted? a ≡ true → RedrawsFor call s steps src ws d)
+          → (accepted? a ≡ true → AllValid (s .width) (s .height) n d) → Promised call s steps src ws scr (record { answer = a; count = total }) d z′
+      said c l y v w = (fa, (ap (λ (x : Answer). numberOf x) fa, (ap (λ (x : Answer). placeOf x) fa, (c, (l, (y, (v, w)))))))
+
+      go : (b : Bool) → accepted? a ≡ b → Promised call s steps src ws scr (record { answer = a; count = total }) d z′
+      go true t =
+          let D′ = subst (λ (m : ℕ). Drawing call (with s m) a steps src ws scr d z total) (all t) D in
+          let z-is : z′ ≡ zeros z = rw t at fz in said (counts t (R t) D′) (if-accepted a _ _ _ t (bytes t (R t) D′)) (if-accepted a _ _ _ t (z-is ∙ ap (λ (m : ℕ). replicate {A = ℕ} m 0) (D′ .drawn t .1))) (λ e. current t (R t) D′) (λ e. valid t (R t) D′)
+      go false t =
+          let k = D .refused t in
+          let z-is : z′ ≡ z = rw t at fz in said (refused-counts t (k .2)) (if-refused a _ _ _ t (k .0)) (if-refused a _ _ _ t (z-is ∙ k .1)) (λ e. absurd (false≢true (sym t ∙ e))) (λ e. absurd (false≢true (sym t ∙ e)))

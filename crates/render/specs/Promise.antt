@@ -1,5 +1,5 @@
--- The buffers after a full render and after a redraw, for every input. Assumes nothing.
-use Prim.Native.Nat.{ℕ, _+_, _*_, _<_}
+-- The answer to a call, and the buffers after a full render and after a redraw, for every input. Assumes nothing.
+use Prim.Native.Nat.{ℕ, _+_, _*_, _<_, min}
 use mathlib.Core.Path.{_≡_}
 use mathlib.Core.Bool.{cond}
 use mathlib.Core.List.{List}
@@ -7,15 +7,19 @@ use lib.ListN.{length, replicate}
 use Rattle.pixel.specs.Alpha.{Valid}
 use Rattle.pixel.specs.Bytes.{pixelAt}
 use Rattle.filter.specs.declared.Answer.{Answer}
+use Rattle.filter.specs.declared.Call.{Call}
+use Rattle.filter.specs.declared.Call.the-variants as C
 use Rattle.filter.specs.declared.Input.the-variants.{Layer}
 use Rattle.filter.specs.declared.Region.{Region}
+use Rattle.filter.specs.declared.Sheet.{Sheet}
 use Rattle.filter.specs.declared.Step.{Step}
 use Rattle.filter.specs.Rect.{In, boundsOf, canvasOf}
 use Rattle.filter.specs.Steps.{effectsOf}
 use Rattle.filter.specs.Layers.{damages, count}
 use Rattle.filter.specs.Bytes.{size, bytesOf, layersOf, redrawnOf}
 use Rattle.filter.specs.Change.{SameOutside}
-use Rattle.filter.specs.Answers.{accepted?}
+use Rattle.filter.specs.Answers.{numberOf, placeOf, accepted?}
+use Rattle.filter.specs.Checks.{answerOf}
 
 -- "A refusal changes nothing that was lent."
 abbrev pub ifAccepted : Answer → List ℕ → List ℕ → List ℕ
@@ -49,3 +53,35 @@ pub record Redraws (w h : ℕ) (steps : List Step) (n : ℕ) (g : Region) (src b
 -- "no colour above its alpha", at every pixel of the n layers in d
 pub record AllValid (w h n : ℕ) (d : List ℕ) : Type 0 where
   pub valid : (k x y : ℕ) → k < n → x < w → y < h → Valid (pixelAt d (k * size w h + 4 * (y * w + x)))
+
+-- how many steps of the list count: as many as the sheet says, and no more than there are
+abbrev pub taken : Sheet → List Step → ℕ
+taken s steps = min (s .count) (length steps)
+
+-- the answer of the refusal table, its number and its place
+abbrev pub answered : Call → Sheet → List Step → List ℕ → List ℕ → List ℕ → Answer
+answered call s steps src ws scr = answerOf (s .width) (s .height) steps (taken s steps) call src ws (length scr)
+
+abbrev pub asNumber : Call → Sheet → List Step → List ℕ → List ℕ → List ℕ → ℕ
+asNumber call s steps src ws scr = numberOf (answered call s steps src ws scr)
+
+abbrev pub asPlace : Call → Sheet → List Step → List ℕ → List ℕ → List ℕ → ℕ
+asPlace call s steps src ws scr = placeOf (answered call s steps src ws scr)
+
+-- the bytes that a call makes of the layers in ws
+unfoldable pub drawnBytes : Call → Sheet → List Step → List ℕ → List ℕ → List ℕ
+drawnBytes C.Render s steps src ws = layerBytes (s .width) (s .height) steps (taken s steps) src
+drawnBytes (C.Redraw g) s steps src ws = redrawnBytes (s .width) (s .height) steps (taken s steps) g ws src
+
+-- the workspace after a call with the answer a
+abbrev pub ifDrawn : Answer → Call → Sheet → List Step → List ℕ → List ℕ → List ℕ
+ifDrawn a call s steps src ws = ifAccepted a (drawnBytes call s steps src ws) ws
+
+-- the pixels worked: those of a redraw; a full render has no count
+unfoldable pub worked : Answer → Call → Sheet → List Step → ℕ
+worked a C.Render s steps = 0
+worked a (C.Redraw g) s steps = countOf a (s .width) (s .height) steps (taken s steps) g
+
+-- demand 3, where the call is a redraw
+abbrev pub RedrawsFor : Call → Sheet → List Step → List ℕ → List ℕ → List ℕ → Type 0
+RedrawsFor call s steps src before after = (g : Region) → call ≡ C.Redraw g → Redraws (s .width) (s .height) steps (taken s steps) g src before after

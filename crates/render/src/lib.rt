@@ -3,22 +3,23 @@
 mod checks;
 pub mod views;
 
-use checks::check_redraw;
-use checks::check_render;
+use checks::counted;
+use checks::finish;
+use checks::settle;
+use checks::usable;
 use filter::Answer;
-use filter::Region;
+use filter::Call;
 use filter::Sheet;
-use layers::redraw_layers;
-use layers::render_layers;
-use plan::answers::is_accepted;
+use filter::Step;
+use layers::check_steps;
+use layers::draw_steps;
+use window::lesser;
 ghost use mathlib.Core.Path.{_≡_};
 ghost use mathlib.Core.Bool.{true};
-ghost use lib.ListN.{length};
 ghost use Rattle.filter.specs.Answers.{numberOf, placeOf, accepted?};
-ghost use Rattle.filter.specs.Checks.{answerOf, render as rendering, redraw as redrawing};
-ghost use Rattle.render.specs.Promise.{ifAccepted, layerBytes, redrawnBytes, zeros, countOf, Redraws, AllValid};
+ghost use Rattle.render.specs.Promise.{taken, answered, asNumber, asPlace, ifAccepted, worked, ifDrawn, zeros, RedrawsFor, AllValid};
 
-// The answer to a redraw, and how many pixels were worked.
+// The answer to a call, and how many pixels a redraw worked.
 pub struct Redrawn {
     pub answer: Answer,
     pub count: usize,
@@ -30,69 +31,45 @@ pub struct View {
     pub bytes: usize,
 }
 
-// A full render: every layer of the sheet on the picture in `source`.
-pub fn render(
-    width: usize,
-    height: usize,
+// A sheet drawn on the picture in `source`: every layer, or the layers in `workspace` brought up to date with a source that has changed
+// inside the named rectangle only. The sheet's steps are the first of the list; those past its count do not count.
+pub fn draw(
+    call: Call,
     sheet: Sheet,
-    source: &[u8],
-    workspace: &mut [u8],
-    scratch: &mut [u8],
-) -> Answer
-    ensures answers { λ a. ⌜ a ≡ answerOf width height (sheet .steps) (sheet .count) rendering (now (source .entry)) (now (workspace .entry)) (length (now (scratch .entry))) ⌝ }
-    ensures number { λ a. ⌜ numberOf a ≡ numberOf (answerOf width height (sheet .steps) (sheet .count) rendering (now (source .entry)) (now (workspace .entry)) (length (now (scratch .entry)))) ⌝ }
-    ensures place { λ a. ⌜ placeOf a ≡ placeOf (answerOf width height (sheet .steps) (sheet .count) rendering (now (source .entry)) (now (workspace .entry)) (length (now (scratch .entry)))) ⌝ }
-    ensures layers { λ a. ⌜ now (workspace .exit) ≡ ifAccepted a (layerBytes width height (sheet .steps) (sheet .count) (now (source .entry))) (now (workspace .entry)) ⌝ }
-    ensures cleared { λ a. ⌜ now (scratch .exit) ≡ ifAccepted a (zeros (now (scratch .entry))) (now (scratch .entry)) ⌝ }
-    ensures valid { λ a. ⌜ (accepted? a ≡ true → AllValid width height (sheet .count) (now (workspace .exit))) ⌝ }
-{
-    let answer = check_render(width, height, sheet, source, &workspace[..], scratch.len());
-    if is_accepted(answer) {
-        render_layers(workspace, source, scratch, width, height, sheet);
-        raster::row::clear(scratch); // "all zero after an accepted call"
-        return answer;
-    }
-    answer
-}
-
-// A partial redraw: the layers in `workspace` brought up to date with `source`, which has changed inside the rectangle `named` only.
-pub fn redraw(
-    width: usize,
-    height: usize,
-    sheet: Sheet,
-    named: Region,
+    steps: &[Step],
     source: &[u8],
     workspace: &mut [u8],
     scratch: &mut [u8],
 ) -> Redrawn
-    ensures answers { λ r. ⌜ r .answer ≡ answerOf width height (sheet .steps) (sheet .count) (redrawing named) (now (source .entry)) (now (workspace .entry)) (length (now (scratch .entry))) ⌝ }
-    ensures number { λ r. ⌜ numberOf (r .answer) ≡ numberOf (answerOf width height (sheet .steps) (sheet .count) (redrawing named) (now (source .entry)) (now (workspace .entry)) (length (now (scratch .entry)))) ⌝ }
-    ensures place { λ r. ⌜ placeOf (r .answer) ≡ placeOf (answerOf width height (sheet .steps) (sheet .count) (redrawing named) (now (source .entry)) (now (workspace .entry)) (length (now (scratch .entry)))) ⌝ }
-    ensures counts { λ r. ⌜ r .count ≡ countOf (r .answer) width height (sheet .steps) (sheet .count) named ⌝ }
-    ensures layers { λ r. ⌜ now (workspace .exit) ≡ ifAccepted (r .answer) (redrawnBytes width height (sheet .steps) (sheet .count) named (now (workspace .entry)) (now (source .entry))) (now (workspace .entry)) ⌝ }
+    ensures answers { λ r. ⌜ r .answer ≡ answered call sheet (now (steps .entry)) (now (source .entry)) (now (workspace .entry)) (now (scratch .entry)) ⌝ }
+    ensures number { λ r. ⌜ numberOf (r .answer) ≡ asNumber call sheet (now (steps .entry)) (now (source .entry)) (now (workspace .entry)) (now (scratch .entry)) ⌝ }
+    ensures place { λ r. ⌜ placeOf (r .answer) ≡ asPlace call sheet (now (steps .entry)) (now (source .entry)) (now (workspace .entry)) (now (scratch .entry)) ⌝ }
+    ensures counts { λ r. ⌜ r .count ≡ worked (r .answer) call sheet (now (steps .entry)) ⌝ }
+    ensures layers { λ r. ⌜ now (workspace .exit) ≡ ifDrawn (r .answer) call sheet (now (steps .entry)) (now (source .entry)) (now (workspace .entry)) ⌝ }
     ensures cleared { λ r. ⌜ now (scratch .exit) ≡ ifAccepted (r .answer) (zeros (now (scratch .entry))) (now (scratch .entry)) ⌝ }
-    ensures redraws { λ r. ⌜ (accepted? (r .answer) ≡ true → Redraws width height (sheet .steps) (sheet .count) named (now (source .entry)) (now (workspace .entry)) (now (workspace .exit))) ⌝ }
-    ensures valid { λ r. ⌜ (accepted? (r .answer) ≡ true → AllValid width height (sheet .count) (now (workspace .exit))) ⌝ }
+    ensures redraws { λ r. ⌜ (accepted? (r .answer) ≡ true → RedrawsFor call sheet (now (steps .entry)) (now (source .entry)) (now (workspace .entry)) (now (workspace .exit))) ⌝ }
+    ensures valid { λ r. ⌜ (accepted? (r .answer) ≡ true → AllValid (sheet .width) (sheet .height) (taken sheet (now (steps .entry))) (now (workspace .exit))) ⌝ }
 {
-    let checked = check_redraw(
-        width,
-        height,
+    let n = lesser(sheet.count, steps.len());
+    let count = usable(n);
+    let checked = check_steps(sheet.width, sheet.height, steps, count);
+    let answer = settle(
+        call,
         sheet,
-        named,
+        n,
+        checked,
         source,
-        &workspace[..],
-        scratch.len(),
+        &mut *workspace,
+        &mut *scratch,
     );
-    if is_accepted(checked) {
-        let count = redraw_layers(workspace, source, scratch, width, height, sheet, named);
-        raster::row::clear(scratch);
-        return Redrawn {
-            answer: checked,
-            count,
-        };
-    }
-    Redrawn {
-        answer: checked,
-        count: 0,
-    }
+    let damages = draw_steps(
+        call,
+        counted(sheet, count),
+        answer,
+        steps,
+        source,
+        &mut *workspace,
+        &mut *scratch,
+    );
+    finish(answer, damages, scratch)
 }

@@ -1,6 +1,5 @@
 -- The last layer of an accepted sheet. Assumes nothing.
 use mathlib.Core.Path.{_≡_, sym, ap, _∙_, fun-ext}
-use mathlib.Core.Bool.{true}
 use mathlib.Core.List.{List}
 use Prim.Native.Nat.{ℕ, zero, suc, _+_, _-_, _*_, _≤_, _<_}
 use native.Mathlib.Omega.{arith}
@@ -11,22 +10,11 @@ use Rattle.pixel.proofs.Painting.{pixel-part}
 use Rattle.filter.specs.declared.Step.{Step}
 use Rattle.filter.specs.Rect.{In, canvasOf}
 use Rattle.filter.specs.Bytes.{size, read, bytesOf, layersOf}
-use Rattle.filter.specs.Answers.{accepted?}
-use Rattle.filter.specs.Checks.{answerOf, render}
 use Rattle.filter.proofs.Rects.{in?}
 use Rattle.filter.proofs.Contents.{read-pixel, read-blank, holds-read}
 use Rattle.filter.proofs.Concat.{bytes-hold}
 use Rattle.filter.proofs.Demand.{layer-blank}
-use Rattle.filter.proofs.Refusals.{else-accepted}
-use Rattle.plan.proofs.Acceptance.{accepted-sizes}
 use Rattle.text_print.proofs.Fields.{row-end}
-
--- an accepted sheet has a step
-pub accepted-some : (w h : ℕ) (steps : List Step) (count : ℕ) (source workspace : List ℕ) (scratch : ℕ)
-    → accepted? (answerOf w h steps count render source workspace scratch) ≡ true → 0 < count
-unfolding answerOf
-accepted-some w h steps count source workspace scratch e =
-    accepted-sizes w h count (length source) (length workspace) scratch (else-accepted _ _ e .0) .some
 
 -- a part of the bytes holds the picture that starts there
 read-part : (w h : ℕ) (d : List ℕ) (o k : ℕ) → size w h ≤ k → read w h (take k (drop o d)) 0 ≡ read w h d o

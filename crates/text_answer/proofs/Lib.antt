@@ -1,5 +1,5 @@
 -- Laws of what is printed for a text.
 pub mod Rooms
 pub mod LastLayer
-pub mod Readings
 pub mod Printed
+pub mod Earlier

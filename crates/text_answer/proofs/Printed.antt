@@ -9,18 +9,21 @@ use lib.ListN.{length, take, drop, replicate, length-append}
 use lib.Seq.{take-at}
 use borrow.Author.Tests.{le-leb, lt-leb}
 use Rattle.filter.specs.declared.Answer.{Answer}
-use Rattle.filter.specs.declared.Sheet.{Sheet}
+use Rattle.filter.specs.declared.Call.the-variants as C
 use Rattle.filter.specs.Picture.{Picture}
-use Rattle.filter.specs.Bytes.{size, read, bytesOf, layersOf}
+use Rattle.filter.specs.Bytes.{size, read}
 use Rattle.filter.specs.Answers.{numberOf, placeOf, accepted?}
-use Rattle.filter.specs.Checks.{answerOf, render}
-use Rattle.text.specs.Many.{stored}
-use Rattle.text.specs.Reading.{readingOf}
+use Rattle.text_step.specs.Many.{stored}
+use Rattle.text.specs.declared.Form.the-variants as F
+use Rattle.text.specs.declared.ReadAnswer.{ReadAnswer}
+use Rattle.text.specs.declared.ReadAnswer.the-variants.{Done, Line, Records}
+use Rattle.lines.specs.Lines.{readingIn, listIn, answerIn, layersIn}
+use Rattle.lines.proofs.Counted.{answer-some, render-bytes}
 use Rattle.text.specs.declared.Reading.{Reading}
 use Rattle.text_print.specs.Output.{okText, refusedText}
 use Rattle.text_print.specs.Code.{Put}
-use Rattle.text_answer.specs.Answer.{lastLayer, answerText, sheetText, readingText, printedOf}
-use Rattle.text_answer.proofs.LastLayer.{accepted-some, last-read}
+use Rattle.text_answer.specs.Answer.{lastLayer, answerText, sheetText, readText, readingText, printedOf}
+use Rattle.text_answer.proofs.LastLayer.{last-read}
 
 -- an answer
 pub answer-ok : (a : Answer) (w h : ℕ) (p q : Picture) → accepted? a ≡ true → p ≡ q → okText w h p ≡ answerText a w h q
@@ -39,26 +42,31 @@ answer-same a w h p q e = go (accepted? a) e
     go true f = ap (okText w h) (f refl)
     go false f = refl
 
--- a sheet, drawn into a workspace of zeros
-module _ (w h : ℕ) (s : Sheet) (src d : List ℕ) (a : Answer) (zeros : d ≡ replicate (s .count * size w h) 0) (is : a ≡ answerOf w h (s .steps) (s .count) render src d (2 * size w h)) where
-  pub drawn-some : accepted? a ≡ true → 0 < s .count
-  drawn-some t = accepted-some w h (s .steps) (s .count) src d (2 * size w h) (ap accepted? (sym is) ∙ t)
+-- the n steps of a text, drawn into a workspace of zeros
+module _ (s : List ℕ) (w h n : ℕ) (src d : List ℕ) (a : Answer) (steps : n ≡ readingIn F.Sheet s .count) (zeros : d ≡ replicate (n * size w h) 0)
+    (is : a ≡ answerIn F.Sheet s C.Render w h src d (replicate (2 * size w h) 0)) where
+  pub drawn-some : accepted? a ≡ true → 0 < n
+  drawn-some t = omega (arith, steps, answer-some F.Sheet s w h C.Render src d (replicate (2 * size w h) 0) (ap accepted? (sym is) ∙ t))
 
-  pub drawn-text : (d′ : List ℕ) → d′ ≡ cond (accepted? a) (bytesOf w h (s .count) (layersOf w h (s .steps) (s .count) src)) d
-      → answerText a w h (read w h d′ ((s .count - 1) * size w h)) ≡ sheetText w h s src
+  pub drawn-text : (d′ : List ℕ) → d′ ≡ layersIn a F.Sheet s C.Render w h src d → answerText a w h (read w h d′ ((n - 1) * size w h)) ≡ sheetText s w h n src
   unfolding sheetText
   drawn-text d′ e =
-      answer-same a w h (read w h d′ ((s .count - 1) * size w h)) (lastLayer w h s src) (λ t. last-read w h (s .steps) (s .count) src d′ (drawn-some t) (rw t at e))
-      ∙ ap (λ (x : Answer). answerText x w h (lastLayer w h s src)) (is ∙ ap (λ (l : List ℕ). answerOf w h (s .steps) (s .count) render src l (2 * size w h)) zeros)
+      answer-same a w h (read w h d′ ((n - 1) * size w h)) (lastLayer s w h n src)
+      (λ t. last-read w h (listIn F.Sheet s) n src d′ (drawn-some t) (e ∙ rw steps (render-bytes F.Sheet s w h a src d t)))
+      ∙ ap (λ (x : Answer). answerText x w h (lastLayer s w h n src)) (is ∙ ap (λ (l : List ℕ). answerIn F.Sheet s C.Render w h src l (replicate (2 * size w h) 0)) zeros)
 
 -- a reading
-pub reading-bad : (r : Reading) → r .good ≡ false → refusedText 15 (r .line) ≡ readingText r
+pub reading-line : (s : List ℕ) (r : Reading) (n : ℕ) (a : ReadAnswer) → a ≡ Line n → refusedText 15 n ≡ readingText s r a
 unfolding readingText
-reading-bad r e = rw e
+reading-line s r n a e = rw e
 
-pub reading-good : (r : Reading) (n : ℕ) → r .good ≡ true → n ≡ size (r .width) (r .height) → sheetText (r .width) (r .height) (r .sheet) (take n (r .pixels)) ≡ readingText r
+pub reading-records : (s : List ℕ) (r : Reading) (a : ReadAnswer) → a ≡ Records → refusedText 21 0 ≡ readingText s r a
 unfolding readingText
-reading-good r n e q = rw (e, q)
+reading-records s r a e = rw e
+
+pub reading-done : (s : List ℕ) (r : Reading) (a : ReadAnswer) → a ≡ Done → readText s r ≡ readingText s r a
+unfolding readingText
+reading-done s r a e = rw e
 
 -- a text at the start of a buffer
 module _ {t d d′ : List ℕ} {n : ℕ} (p : Put t 0 d d′ n) where
@@ -73,10 +81,10 @@ module _ {t d d′ : List ℕ} {n : ℕ} (p : Put t 0 d d′ n) where
   put-taken = ap (take n) starts ∙ take-at t (drop (0 + length t) d) n (omega (arith, p .ends))
 
 -- the answer to a text
-module _ (s : List ℕ) {r : Reading} {d d′ : List ℕ} {n : ℕ} (is : r ≡ readingOf s) (p : Put (readingText r) 0 d d′ n) where
-  text-is : readingText r ≡ printedOf s
+module _ (s : List ℕ) {r : Reading} {d d′ : List ℕ} {n : ℕ} (is : r ≡ readingIn F.Sheet s) (p : Put (readingText s r (r .answer)) 0 d d′ n) where
+  text-is : readingText s r (r .answer) ≡ printedOf s
   unfolding printedOf
-  text-is = ap readingText is
+  text-is = ap (λ (x : Reading). readingText s x (x .answer)) is
 
   pub printed-length : n ≡ length (printedOf s)
   printed-length = omega (arith, p .ends, ap length text-is)

@@ -4,21 +4,23 @@ use mathlib.Core.List.{List}
 use Prim.Native.Nat.{ℕ, _-_, _*_}
 use lib.ListN.{take, replicate}
 use Rattle.filter.specs.declared.Answer as A
-use Rattle.filter.specs.declared.Sheet.{Sheet}
+use Rattle.filter.specs.declared.Call.the-variants.{Render}
 use Rattle.filter.specs.Picture.{Picture}
 use Rattle.filter.specs.Bytes.{size, layersOf}
 use Rattle.filter.specs.Answers.{numberOf, placeOf, accepted?}
-use Rattle.filter.specs.Checks.{answerOf, render}
+use Rattle.text.specs.declared.Form.the-variants as F
+use Rattle.text.specs.declared.ReadAnswer.{ReadAnswer}
+use Rattle.text.specs.declared.ReadAnswer.the-variants.{Done, Line, Records}
 use Rattle.text.specs.declared.Reading.{Reading}
-use Rattle.text.specs.Reading.{readingOf}
 use Rattle.text_print.specs.Output.{okText, refusedText}
+use Rattle.lines.specs.Lines.{readingIn, listIn, answerIn}
 
--- a full render on the source src, with a workspace and a scratch buffer of the right lengths
-abbrev pub answered : ℕ → ℕ → Sheet → List ℕ → A.Answer
-answered w h s src = answerOf w h (s .steps) (s .count) render src (replicate (s .count * size w h) 0) (2 * size w h)
+-- a full render of the text's n steps on the source src, with a workspace and a scratch buffer of the right lengths
+abbrev pub answered : List ℕ → ℕ → ℕ → ℕ → List ℕ → A.Answer
+answered s w h n src = answerIn F.Sheet s Render w h src (replicate (n * size w h) 0) (replicate (2 * size w h) 0)
 
-abbrev pub lastLayer : ℕ → ℕ → Sheet → List ℕ → Picture
-lastLayer w h s src = layersOf w h (s .steps) (s .count) src (s .count - 1)
+abbrev pub lastLayer : List ℕ → ℕ → ℕ → ℕ → List ℕ → Picture
+lastLayer s w h n src = layersOf w h (listIn F.Sheet s) n src (n - 1)
 
 -- no answer is longer: `ok` and sixteen rows of sixteen pixels, each line with its line feed
 abbrev pub longest : ℕ
@@ -28,14 +30,19 @@ longest = 2371
 unfoldable pub answerText : A.Answer → ℕ → ℕ → Picture → List ℕ
 answerText a w h p = cond (accepted? a) (okText w h p) (refusedText (numberOf a) (placeOf a))
 
-unfoldable pub sheetText : ℕ → ℕ → Sheet → List ℕ → List ℕ
-sheetText w h s src = answerText (answered w h s src) w h (lastLayer w h s src)
+unfoldable pub sheetText : List ℕ → ℕ → ℕ → ℕ → List ℕ → List ℕ
+sheetText s w h n src = answerText (answered s w h n src) w h (lastLayer s w h n src)
 
--- "For text, 15 comes before all others": the first line not of the form; else the sheet on the pixels of its rows
-unfoldable pub readingText : Reading → List ℕ
-readingText r =
-    cond (r .good) (sheetText (r .width) (r .height) (r .sheet) (take (size (r .width) (r .height)) (r .pixels))) (refusedText 15 (r .line))
+-- the sheet on the pixels of its rows
+abbrev pub readText : List ℕ → Reading → List ℕ
+readText s r = sheetText s (r .width) (r .height) (r .count) (take (size (r .width) (r .height)) (r .pixels))
+
+-- "For text, 15 comes before all others": the first line not of the form. 21 is never met: the list has room for every sheet
+unfoldable pub readingText : List ℕ → Reading → ReadAnswer → List ℕ
+readingText s r Done = readText s r
+readingText s r (Line n) = refusedText 15 n
+readingText s r Records = refusedText 21 0
 
 -- what `sheet` prints for a text
 unfoldable pub printedOf : List ℕ → List ℕ
-printedOf s = readingText (readingOf s)
+printedOf s = readingText s (readingIn F.Sheet s) (readingIn F.Sheet s .answer)

@@ -9,5 +9,5 @@ use Rattle.filter.specs.Limits.{mostSteps, longestTextSide, textPicture}
 pub record Within (r : Reading) : Type 0 where
   pub wide : r .width ≤ longestTextSide
   pub high : r .height ≤ longestTextSide
-  pub few : r .sheet .count ≤ mostSteps
+  pub few : r .count ≤ mostSteps
   pub pixels : length (r .pixels) ≡ textPicture

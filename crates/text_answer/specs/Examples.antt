@@ -18,12 +18,13 @@ use Rattle.filter.specs.Checks as C
 use Rattle.text_field.specs.Words.{bytes}
 use Rattle.text_field.specs.Split as T
 use Rattle.text_field.specs.Field as F
-use Rattle.text.specs.Many as M
-use Rattle.text.specs.Kinds as K
-use Rattle.text.specs.StepLine as P
+use Rattle.text_step.specs.Many as M
+use Rattle.text_step.specs.Kinds as K
+use Rattle.text_step.specs.StepLine as P
 use Rattle.text.specs.Document as D
 use Rattle.text.specs.Lines.{linesOf}
-use Rattle.text.specs.Reading.{textLines, readingOf}
+use Rattle.text.specs.Texts as X
+use Rattle.text.specs.Reading.{readingOf}
 use Rattle.text.specs.Examples.{example, canvasLine, rowLine}
 use Rattle.text_print.specs.Digits.{digit, shortest, decimal, hexByte, hexPixel}
 use Rattle.text_print.specs.Output.{line, listed, rowFields, rowLines, okText, refusedText}
@@ -41,5 +42,5 @@ pub record Printed : Type 0 where
   pub minus : printedOf (canvasLine ++ (blurLine ++ rowLine)) ≡ refusedText 9 0
 
 pub printed : Printed
-unfolding nearest judgedRatio composited flooded firstInvalid R.inside patch L.replaced L.initial L.rendered work S.resolved S.effectOf B.read B.concat accepted? C.firstOf C.all C.inputs? C.numbersAnswer C.stepAnswer C.sizesAnswer C.answerOf T.split T.join T.indexOf F.same F.digitOf F.accumulated F.digitsOf F.naturalOf F.hexOf F.fractionOf F.magnitudeOf F.numberOf M.all M.concat M.padded M.stored K.named K.firstNamed K.kindOf P.inputOf P.wiresOf P.operandsOf P.assembled P.stepAs P.stepOf D.sheetLine D.pixelsOf D.rowOf D.lineOf D.canvasOf linesOf textLines readingOf digit shortest decimal hexByte hexPixel line listed rowFields rowLines okText refusedText answerText sheetText readingText printedOf
+unfolding nearest judgedRatio composited flooded firstInvalid R.inside patch L.replaced L.initial L.rendered work S.resolved S.effectOf B.read B.concat accepted? C.firstOf C.all C.inputs? C.numbersAnswer C.stepAnswer C.sizesAnswer C.answerOf T.split T.join T.indexOf F.same F.digitOf F.accumulated F.digitsOf F.naturalOf F.hexOf F.fractionOf F.magnitudeOf F.numberOf M.all M.concat M.padded M.stored K.named K.firstNamed K.kindOf P.inputOf P.wiresOf P.operandsOf P.assembled P.stepAs P.stepOf D.pixelsOf D.canvasOf linesOf X.row? X.line? X.after X.textLines X.textOf readingOf digit shortest decimal hexByte hexPixel line listed rowFields rowLines okText refusedText answerText sheetText readingText printedOf
 printed = record { paper = refl; nothing = refl; stepless = refl; minus = refl }

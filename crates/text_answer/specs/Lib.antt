@@ -2,3 +2,4 @@
 pub mod Answer
 pub mod Examples
 pub mod Code
+pub mod Earlier

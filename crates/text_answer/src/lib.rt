@@ -1,13 +1,16 @@
 // From a text to what the program `sheet` prints. Canvases in text are small, so all buffers are local.
 use filter::Answer;
+use filter::Call;
 use filter::Sheet;
+use lines::draw_lines;
 use plan::answers::is_accepted;
 use plan::answers::number;
 use plan::answers::place;
 use plan::sizes::picture_size;
-use render::render;
+use text::Form;
+use text::ReadAnswer;
 use text::Reading;
-use text::reader::read;
+use text::reader::scan;
 use text_print::digits::put_word;
 use text_print::lines::put_ok;
 use text_print::lines::put_refused;
@@ -16,27 +19,39 @@ ghost use mathlib.Core.Bool.{true, cond};
 ghost use Prim.Native.Nat.{_-_, _*_, _≤_, _<_};
 ghost use lib.Dec.{leb};
 ghost use lib.ListN.{length, replicate};
-ghost use Rattle.filter.specs.Bytes.{size, read as picture, bytesOf, layersOf};
+ghost use Rattle.filter.specs.declared.Call.the-variants as C;
+ghost use Rattle.filter.specs.Bytes.{size, read as picture};
 ghost use Rattle.filter.specs.Answers.{accepted?};
-ghost use Rattle.filter.specs.Checks.{answerOf, render as rendering};
 ghost use Rattle.filter.specs.Limits.{mostSteps, longestTextSide};
-ghost use Rattle.text.specs.Many.{stored};
+ghost use Rattle.text.specs.declared.Form.the-variants as F;
+ghost use Rattle.text_step.specs.Many.{stored};
+ghost use Rattle.lines.specs.Lines.{readingIn, answerIn, layersIn};
 ghost use Rattle.text_print.specs.Code.{Put};
-ghost use Rattle.text_answer.specs.Answer.{longest, answerText, sheetText, readingText, printedOf};
+ghost use Rattle.text_answer.specs.Answer.{longest, answerText, sheetText, readText, readingText, printedOf};
 ghost use Rattle.text_answer.specs.Code.{Within};
 
 // No answer is longer: `ok` and sixteen rows of sixteen pixels.
 pub const LONGEST: usize = 2371;
 
-// A full render with a scratch buffer of its own.
-fn draw(width: usize, height: usize, sheet: Sheet, source: &[u8], workspace: &mut [u8]) -> Answer
+// A full render of the text's steps with a scratch buffer of its own.
+fn draw(text: &[u8], width: usize, height: usize, source: &[u8], workspace: &mut [u8]) -> Answer
     requires { ⌜ (width ≤ longestTextSide) × (height ≤ longestTextSide) ⌝ }
-    ensures { λ a. ⌜ a ≡ answerOf width height (sheet .steps) (sheet .count) rendering (now (source .entry)) (now (workspace .entry)) (2 * size width height) ⌝ }
-    ensures { λ a. ⌜ now (workspace .exit) ≡ cond (accepted? a) (bytesOf width height (sheet .count) (layersOf width height (sheet .steps) (sheet .count) (now (source .entry)))) (now (workspace .entry)) ⌝ }
+    ensures { λ a. ⌜ a ≡ answerIn F.Sheet (now (text .entry)) C.Render width height (now (source .entry)) (now (workspace .entry)) (replicate (2 * size width height) 0) ⌝ }
+    ensures { λ a. ⌜ now (workspace .exit) ≡ layersIn a F.Sheet (now (text .entry)) C.Render width height (now (source .entry)) (now (workspace .entry)) ⌝ }
 {
     let mut scratch = [0u8; 2 * Sheet::TEXT_PICTURE];
     let n = 2 * picture_size(width, height);
-    render(width, height, sheet, source, workspace, &mut scratch[..n])
+    let drawn = draw_lines(
+        Form::Sheet,
+        text,
+        Call::Render,
+        width,
+        height,
+        source,
+        workspace,
+        &mut scratch[..n],
+    );
+    drawn.answer
 }
 
 // The last of `count` layers.
@@ -69,44 +84,63 @@ fn print_answer(
     put_refused(out, 0, number(answer) as usize, place(answer))
 }
 
-// The sheet on the picture in `source`, with a workspace of zeros.
+// The text's sheet on the picture in `source`, with a workspace of zeros.
 fn print_drawn(
+    text: &[u8],
     width: usize,
     height: usize,
-    sheet: Sheet,
+    count: usize,
     source: &[u8],
     workspace: &mut [u8],
     out: &mut [u8],
 ) -> usize
-    requires { ⌜ (width ≤ longestTextSide) × (height ≤ longestTextSide) × (now workspace ≡ replicate (sheet .count * size width height) 0) × (length (now out) ≡ longest) ⌝ }
-    ensures { λ r. ⌜ Put (sheetText width height sheet (now (source .entry))) 0 (now (out .entry)) (now (out .exit)) r ⌝ }
+    requires { ⌜ (width ≤ longestTextSide) × (height ≤ longestTextSide) × (count ≡ readingIn F.Sheet (now text) .count) ⌝ }
+    requires { ⌜ (now workspace ≡ replicate (count * size width height) 0) × (length (now out) ≡ longest) ⌝ }
+    ensures { λ r. ⌜ Put (sheetText (now (text .entry)) width height count (now (source .entry))) 0 (now (out .entry)) (now (out .exit)) r ⌝ }
 {
-    let answer = draw(width, height, sheet, source, workspace);
-    print_answer(answer, width, height, sheet.count, &workspace[..], out)
+    let answer = draw(text, width, height, source, workspace);
+    print_answer(answer, width, height, count, &workspace[..], out)
 }
 
-fn print_sheet(width: usize, height: usize, sheet: Sheet, source: &[u8], out: &mut [u8]) -> usize
-    requires { ⌜ (width ≤ longestTextSide) × (height ≤ longestTextSide) × (sheet .count ≤ mostSteps) × (length (now out) ≡ longest) ⌝ }
-    ensures { λ r. ⌜ Put (sheetText width height sheet (now (source .entry))) 0 (now (out .entry)) (now (out .exit)) r ⌝ }
+fn print_sheet(
+    text: &[u8],
+    width: usize,
+    height: usize,
+    count: usize,
+    source: &[u8],
+    out: &mut [u8],
+) -> usize
+    requires { ⌜ (width ≤ longestTextSide) × (height ≤ longestTextSide) × (count ≡ readingIn F.Sheet (now text) .count) ⌝ }
+    requires { ⌜ (count ≤ mostSteps) × (length (now out) ≡ longest) ⌝ }
+    ensures { λ r. ⌜ Put (sheetText (now (text .entry)) width height count (now (source .entry))) 0 (now (out .entry)) (now (out .exit)) r ⌝ }
 {
     let mut workspace = [0u8; Sheet::STEPS * Sheet::TEXT_PICTURE];
-    let n = sheet.count * picture_size(width, height);
-    print_drawn(width, height, sheet, source, &mut workspace[..n], out)
+    let n = count * picture_size(width, height);
+    print_drawn(text, width, height, count, source, &mut workspace[..n], out)
 }
 
-fn print_reading(reading: Reading, out: &mut [u8]) -> usize
-    requires { ⌜ Within reading × (length (now out) ≡ longest) ⌝ }
-    ensures { λ r. ⌜ Put (readingText reading) 0 (now (out .entry)) (now (out .exit)) r ⌝ }
+fn print_read(text: &[u8], reading: Reading, out: &mut [u8]) -> usize
+    requires { ⌜ (reading ≡ readingIn F.Sheet (now text)) × Within reading × (length (now out) ≡ longest) ⌝ }
+    ensures { λ r. ⌜ Put (readText (now (text .entry)) reading) 0 (now (out .entry)) (now (out .exit)) r ⌝ }
 {
-    if !reading.good {
-        return put_refused(out, 0, 15, reading.line);
-    }
     let width = reading.width;
     let height = reading.height;
-    let sheet = reading.sheet;
+    let count = reading.count;
     let pixels = reading.pixels;
     let n = picture_size(width, height);
-    print_sheet(width, height, sheet, &pixels[..n], out)
+    print_sheet(text, width, height, count, &pixels[..n], out)
+}
+
+fn print_reading(text: &[u8], reading: Reading, out: &mut [u8]) -> usize
+    requires { ⌜ (reading ≡ readingIn F.Sheet (now text)) × Within reading × (length (now out) ≡ longest) ⌝ }
+    ensures { λ r. ⌜ Put (readingText (now (text .entry)) reading (reading .answer)) 0 (now (out .entry)) (now (out .exit)) r ⌝ }
+{
+    let answer = reading.answer;
+    match answer {
+        ReadAnswer::Done => print_read(text, reading, out),
+        ReadAnswer::Line(line) => put_refused(out, 0, 15, line),
+        ReadAnswer::Records => put_refused(out, 0, 21, 0),
+    }
 }
 
 // What `sheet` prints for a text. The answer is its length, at most 2,371; it is stored at the start of `out` where that is long enough,
@@ -117,7 +151,7 @@ pub fn answer(text: &[u8], out: &mut [u8]) -> usize
     ensures printed { λ _. ⌜ now (out .exit) ≡ cond (leb (length (printedOf (now (text .entry)))) (length (now (out .entry)))) (stored (now (out .entry)) 0 (printedOf (now (text .entry)))) (now (out .entry)) ⌝ }
 {
     let mut printed = [0u8; LONGEST];
-    let n = print_reading(read(text), &mut printed);
+    let n = print_reading(text, scan(Form::Sheet, text, Sheet::STEPS), &mut printed);
     if n <= out.len() {
         put_word(out, 0, &printed[..n]);
     }

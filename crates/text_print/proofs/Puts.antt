@@ -9,8 +9,8 @@ use lib.ListN.{length, getD, take, set, length-append}
 use lib.Seq.{take-suc, take-all, length-take-le}
 use Rattle.filter.specs.Bytes.{concat}
 use Rattle.filter.proofs.Concat.{concat-length}
-use Rattle.text.specs.Many.{stored}
-use Rattle.text.proofs.Stored.{stored-none, stored-next, stored-more}
+use Rattle.text_step.specs.Many.{stored}
+use Rattle.text_step.proofs.Stored.{stored-none, stored-next, stored-more}
 use Rattle.text_print.specs.Code.{Put}
 
 pub put-none : (at : ℕ) (d : List ℕ) → Put [] at d d at

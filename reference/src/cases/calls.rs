@@ -2,9 +2,8 @@
 //!
 //! An entry is a line and what is handed over. The line: a name of 12 characters; a letter for what is printed of a layer;
 //! twelve fields of 16 hex digits with nothing between them: width, height, the rectangle's x, y, width and height, the
-//! sheet's count of steps, the layer to print, the lengths of step lines, source, workspace and scratch; a line feed.
-//! Then the step lines and the bytes of the three buffers. Steps up to the count that have no line are blank: a merge of
-//! nothing on an empty region.
+//! count of steps that the view is asked with, the layer to print, the lengths of step lines, source, workspace and
+//! scratch; a line feed. Then the step lines and the bytes of the three buffers.
 //!
 //! An entry is rendered and redrawn, on buffers of its own each time, a line a call: name, call, number, place, a redraw's
 //! count; the workspace `kept` or `changed`; the scratch `kept`, or `cleared` to zeros, or `changed`; then as the letter
@@ -18,9 +17,9 @@ use crate::fault::Fault;
 use crate::print;
 use crate::random::Random;
 use crate::render::{layer, redraw, render, Sheet};
-use crate::step::{Kind, Region, Step};
+use crate::step::Region;
 use crate::sums::poly;
-use crate::text::read_steps;
+use crate::text::steps_of;
 
 /// What the program has room for.
 const MOST_LINES: usize = 8192;
@@ -72,11 +71,8 @@ fn random_entry(random: &mut Random, name: String) -> Option<Entry> {
     if random.once_in(2) {
         hold_old_layers(random, &mut case);
     }
-    let lines = read_steps(&case.steps, Fault::None).map_or(0, |steps| steps.len());
-    let count = if random.once_in(24) { lines.saturating_add_signed(random.pick(&[-1, 1, 17])) } else { lines };
-    if lines > 0 && count != lines && random.once_in(2) {
-        case.workspace.resize(case.workspace.len() / lines * count, 0);
-    }
+    let lines = steps_of(&case.steps, Fault::None).map_or(0, |steps| steps.len());
+    let count = if random.once_in(24) { lines.saturating_add_signed(random.pick(&[-1, 1, 17, 65])) } else { lines };
     let layer = random.pick(&[count.saturating_sub(1), count.saturating_sub(1), count / 2, 0, count, usize::MAX]);
     fits(&case).then_some(Entry { name, show: 's', count, layer, case })
 }
@@ -84,7 +80,7 @@ fn random_entry(random: &mut Random, name: String) -> Option<Entry> {
 /// Most regions become the whole canvas, and the rectangle holds a pixel: much is drawn.
 fn widen(random: &mut Random, case: &mut Case) {
     let (width, height) = (case.width, case.height);
-    let Ok(mut steps) = read_steps(&case.steps, Fault::None) else { return };
+    let Ok(mut steps) = steps_of(&case.steps, Fault::None) else { return };
     if side_is_wrong(width) || side_is_wrong(height) {
         return;
     }
@@ -103,8 +99,8 @@ fn widen(random: &mut Random, case: &mut Case) {
 fn hold_old_layers(random: &mut Random, case: &mut Case) {
     let Region { x, y, width, height } = case.rect;
     let inside = x.saturating_add(width) <= case.width && y.saturating_add(height) <= case.height;
-    let Ok(steps) = read_steps(&case.steps, Fault::None) else { return };
-    let sheet = Sheet { width: case.width, height: case.height, steps: &steps };
+    let Ok(steps) = steps_of(&case.steps, Fault::None) else { return };
+    let sheet = Sheet::whole(case.width, case.height, &steps);
     let (mut layers, mut scratch) = (case.workspace.clone(), case.scratch.clone());
     if !inside || render(sheet, &case.source, &mut layers, &mut scratch, Fault::None) != Answer::DONE {
         return;
@@ -127,22 +123,13 @@ fn written(entry: &Entry) -> Vec<u8> {
     [head.as_bytes(), steps, source, workspace, scratch].concat()
 }
 
-const BLANK: Step = Step {
-    kind: Kind::Merge,
-    region: Region { x: 0, y: 0, width: 0, height: 0 },
-    inputs: Vec::new(),
-    colour: [0; 3],
-    numbers: Vec::new(),
-};
-
 fn lines(entry: &Entry, fault: Fault) -> String {
     let Case { width, height, rect, source, .. } = &entry.case;
-    let mut steps = match read_steps(&entry.case.steps, fault) {
+    let steps = match steps_of(&entry.case.steps, fault) {
         Err(refused) => return format!("{:12} text {} {}\n", entry.name, refused.number, refused.place),
         Ok(steps) => steps,
     };
-    steps.resize(entry.count, BLANK);
-    let sheet = Sheet { width: *width, height: *height, steps: &steps };
+    let sheet = Sheet::whole(*width, *height, &steps);
     let (mut workspace, mut scratch) = (entry.case.workspace.clone(), entry.case.scratch.clone());
     let answer = render(sheet, source, &mut workspace, &mut scratch, fault);
     let rendered = format!("{:12} render {} {}", entry.name, answer.number, answer.place);

@@ -151,7 +151,6 @@ fn sizes() -> Vec<Entry> {
         plain("2 short", |call| call.case.source.truncate(15)),
         plain("2 long", |call| call.case.source.extend([0; 4])),
         call("3 no steps", '-', 2, 2, ""),
-        plain("3 seventeen", |call| call.count = 17),
         plain("4 short", |call| call.case.workspace.truncate(28)),
         plain("4 long", |call| call.case.workspace.push(0)),
         plain("5 short", |call| call.case.scratch.truncate(31)),
@@ -165,15 +164,10 @@ fn sizes() -> Vec<Entry> {
 
 /// Refusals 7 to 11 and 13, at step 1 unless the name says 0.
 fn steps() -> Vec<Entry> {
-    let none = second("7 no inputs", "offset 0 0 2 2 0 1 0").with(|call| {
-        call.count = 3;
-        call.case.workspace = [0, 0, 0, 9].repeat(12);
-    });
     vec![
         second("7 own layer", "over 0 0 2 2 src 1"),
         second("7 far layer", "merge 0 0 2 2 src alpha 0 9999"),
         call("7 at 0", '-', 2, 2, "offset 0 0 2 2 1 1 0\nlumalpha 0 0 2 2 src\n"),
-        none,
         second("8 nan", "offset 0 0 2 2 src x7fc00000 0"),
         second("8 infinite", "blur 0 0 2 2 src 0 xff800000"),
         call("9 P12 at 0", '-', 2, 2, "blur 0 0 2 2 src -0.0001 0\nlumalpha 0 0 2 2 src\n"),
@@ -206,9 +200,31 @@ fn pixels_and_order() -> Vec<Entry> {
         plain("5 before 6", |call| call.case.scratch.truncate(31)).named([1, 0, 2, 1]),
         second("6 before 7", "over 0 0 2 2 src 1").named([0, 0, 3, 0]),
         second("15 line", "merge 0 0 2 2"),
+        call("15 too many", '-', 1, 1, &"lumalpha 0 0 1 1 src\n".repeat(65)),
+    ]
+}
+
+/// Sheets of more than 16 steps: a row moved right and left in turn. Even layers are 10 20 30 0 but for the first, odd ones
+/// 0 10 20 30; redrawn, from the nines around, 9 20 9 9 and 9 9 20 9, a pixel a step.
+fn long() -> Vec<Entry> {
+    let moved = |name: &str, count: usize, layer: usize| {
+        let step = |n: usize| match n {
+            0 => "offset 0 0 4 1 src 0 0".to_string(),
+            _ => format!("offset 0 0 4 1 {} {} 0", n - 1, [-1, 1][n % 2]),
+        };
+        let steps: Vec<String> = (0..count).map(step).collect();
+        let call = line(name, 4, &[10, 20, 30, 40], &steps.join("\n"), [1, 0, 1, 1]);
+        call.with(|call| call.layer = layer)
+    };
+    vec![
+        moved("17 steps", 17, 16),
+        moved("64 steps", 64, 63),
+        moved("64, layer 17", 64, 17),
+        moved("64, no layer", 64, 64),
     ]
 }
 
 pub fn listed() -> Vec<Entry> {
-    [pixels(), halves(), neighbourhoods(), sizes(), steps(), pixels_and_order()].into_iter().flatten().collect()
+    let all = [pixels(), halves(), neighbourhoods(), sizes(), steps(), pixels_and_order(), long()];
+    all.into_iter().flatten().collect()
 }

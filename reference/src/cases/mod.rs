@@ -59,7 +59,7 @@ fn wild_region(random: &mut Random, width: usize, height: usize, far: usize) -> 
 
 fn input(random: &mut Random, n: usize, wild: bool) -> Input {
     if wild && random.once_in(8) {
-        return Input::Layer(n + random.pick(&[0, 1, 16, 9983]));
+        return Input::Layer((n + random.pick(&[0, 1, 16, 64, 9999])).min(9999));
     }
     match random.below(if n == 0 { 2 } else { 5 }) {
         0 => Input::Source,
@@ -181,25 +181,37 @@ fn damage_length(random: &mut Random, bytes: &mut Vec<u8>) {
     bytes.resize(other, 0);
 }
 
-fn side(random: &mut Random) -> usize {
-    random.pick(&[1, 1, 2, 3, 4, 5, 6, 7, 8, 9, 11, 16])
+/// A side of a canvas; a short one where there are many steps, so that a case takes about as long.
+fn side(random: &mut Random, steps: usize) -> usize {
+    let side = random.pick(&[1, 1, 2, 3, 4, 5, 6, 7, 8, 9, 11, 16]);
+    if steps > 16 {
+        side.min(3)
+    } else {
+        side
+    }
+}
+
+/// How many steps: mostly a few; now and then none, many, as many as there may be or one more.
+fn count(random: &mut Random, wild: bool) -> usize {
+    match random.below(24) {
+        0 => 0,
+        1 => random.within(16, MOST_STEPS as i64) as usize,
+        2 => random.pick(&[16, 17, MOST_STEPS - 1, MOST_STEPS]),
+        3 if wild => MOST_STEPS + 1,
+        _ => 1 + random.below(5),
+    }
 }
 
 /// A call on a small canvas. About two in three are accepted.
 pub fn case(random: &mut Random) -> Case {
-    let (mut width, mut height) = (side(random), side(random));
+    let wild = random.once_in(3);
+    let count = count(random, wild);
+    let (mut width, mut height) = (side(random, count), side(random, count));
     match random.below(40) {
         0 => width = random.pick(&[33, 64, 130]),
         1 => height = random.pick(&[33, 64, 130]),
         _ => {}
     }
-    let wild = random.once_in(3);
-    let count = match random.below(24) {
-        0 => 0,
-        1 => MOST_STEPS,
-        2 if wild => MOST_STEPS + 1,
-        _ => 1 + random.below(5),
-    };
     let steps = sheet(random, count, width, height, wild);
     let mut text = print::steps(&steps, random.below(5)).into_bytes();
     if random.once_in(24) {

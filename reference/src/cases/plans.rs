@@ -12,15 +12,19 @@ use crate::fault::Fault;
 use crate::random::Random;
 use crate::rect::Rect;
 use crate::step::Region;
-use crate::text::read_steps;
+use crate::text::steps_of;
 
 const MOST: usize = 0xffff;
+
+/// What the program has room for.
+const MOST_LINES: usize = 8192;
 
 pub fn entries(seed: u64, many: usize) -> (Vec<u8>, String) {
     let mut random = Random::new(seed);
     let (mut given, mut answers) = (Vec::new(), String::new());
     for n in 0..many {
-        let case = case(&mut random);
+        let case = std::iter::repeat_with(|| case(&mut random)).find(|case| case.steps.len() <= MOST_LINES);
+        let case = case.expect("some are short");
         let (width, height) = (case.width.min(MOST), case.height.min(MOST));
         let Region { x, y, width: across, height: down } = case.rect;
         let rect = Region { x: x.min(MOST), y: y.min(MOST), width: across.min(MOST), height: down.min(MOST) };
@@ -51,7 +55,7 @@ fn place(rect: &Rect) -> String {
 }
 
 fn planned(width: usize, height: usize, rect: Region, text: &[u8]) -> Result<Vec<Rect>, Answer> {
-    let steps = read_steps(text, Fault::None)?;
+    let steps = steps_of(text, Fault::None)?;
     let size = if side_is_wrong(width) || side_is_wrong(height) { 0 } else { 4 * width * height };
     let (source, workspace, scratch) = (vec![0; size], vec![0; size * steps.len()], vec![0; 2 * size]);
     let call = Call {

@@ -3,7 +3,7 @@
 use crate::random::Random;
 
 /// Fields to put in another's place.
-const ODD_FIELDS: [&str; 44] = [
+const ODD_FIELDS: [&str; 46] = [
     "",
     "0",
     "00",
@@ -43,6 +43,8 @@ const ODD_FIELDS: [&str; 44] = [
     "15",
     "16",
     "17",
+    "63",
+    "64",
     "255",
     "256",
     "1025",
@@ -126,7 +128,7 @@ pub fn lines(lines: &mut Vec<Vec<u8>>, at: usize, way: usize) {
         }
         15 => {
             let step = line.clone();
-            (0..16).for_each(|_| lines.insert(at, step.clone()));
+            (0..64).for_each(|_| lines.insert(at, step.clone()));
         }
         _ => lines.insert(at, LINES[way - 16].into()),
     }

@@ -1,10 +1,11 @@
 //! Texts for `sheet`: valid ones, refused ones, malformed ones, and junk.
 
 use crate::cases::{damage_picture, picture, sheet, spoil, step};
+use crate::line::LONGEST_TEXT_SIDE;
 use crate::print;
 use crate::random::Random;
 use crate::step::{Step, KINDS, MOST_STEPS};
-use crate::text::{LONGEST_TEXT, LONGEST_TEXT_SIDE};
+use crate::text::{EARLIER, LONGEST_TEXT};
 
 /// The example of RULES 9.9.
 pub const EXAMPLE: &str =
@@ -18,7 +19,15 @@ pub fn written(width: usize, height: usize, steps: &[Step], source: &[u8], place
 
 /// A well-formed text; a wild one may earn a refusal.
 fn well_formed(random: &mut Random, wild: bool) -> Vec<u8> {
-    let mut sides = [0, 0].map(|_| random.pick(&[1, 2, 3, 3, 4, 5, 7]));
+    let count = match random.below(16) {
+        0 if wild => 0,
+        1 => random.pick(&[16, 17, MOST_STEPS - 1, MOST_STEPS, MOST_STEPS + 1]),
+        2 if random.once_in(2) => random.within(17, MOST_STEPS as i64) as usize,
+        _ => 1 + random.below(4),
+    };
+    // A text of many steps takes about as long on a small canvas.
+    let longest = if count > 16 { 2 } else { 7 };
+    let mut sides = [0, 0].map(|_| random.pick(&[1, 2, 3, 3, 4, 5, 7]).min(longest));
     if random.once_in(8) {
         sides[random.below(2)] = LONGEST_TEXT_SIDE;
     }
@@ -26,11 +35,6 @@ fn well_formed(random: &mut Random, wild: bool) -> Vec<u8> {
         sides[random.below(2)] = 0;
     }
     let [width, height] = sides;
-    let count = match random.below(16) {
-        0 if wild => 0,
-        1 => MOST_STEPS,
-        _ => 1 + random.below(4),
-    };
     let steps = sheet(random, count, width, height, wild);
     let mut source = picture(random, width * height);
     if wild && random.once_in(4) {
@@ -56,7 +60,7 @@ fn junk(random: &mut Random) -> Vec<u8> {
         _ => {
             // Too long, or just not.
             let mut text = well_formed(random, false);
-            let more = random.pick(&[LONGEST_TEXT - 1, LONGEST_TEXT, LONGEST_TEXT + 1]);
+            let more = random.pick(&[EARLIER.bytes + 1, LONGEST_TEXT - 1, LONGEST_TEXT, LONGEST_TEXT + 1]);
             let byte = random.pick(b"\n0\t ");
             text.resize(more, byte);
             text
@@ -110,12 +114,20 @@ pub fn text(random: &mut Random) -> Vec<u8> {
 pub fn listed(random: &mut Random) -> Vec<Vec<u8>> {
     let mut all: Vec<Vec<u8>> =
         vec![EXAMPLE.into(), Vec::new(), b"\n".to_vec(), b"canvas".to_vec(), b"canvas\t0\t0\n".to_vec()];
-    for length in [LONGEST_TEXT, LONGEST_TEXT + 1] {
+    for length in [EARLIER.bytes, EARLIER.bytes + 1, LONGEST_TEXT, LONGEST_TEXT + 1] {
         let mut text: Vec<u8> = EXAMPLE.into();
         text.resize(length, b'\n');
         all.push(text);
         all.push(vec![0; length]);
     }
+    for count in [16, 17, MOST_STEPS - 1, MOST_STEPS, MOST_STEPS + 1] {
+        let (steps, source) = (sheet(random, count, 2, 2, false), picture(random, 4));
+        all.push(written(2, 2, &steps, &source, 0));
+    }
+    // The largest workspace: 65,536 bytes.
+    let side = LONGEST_TEXT_SIDE;
+    let (steps, source) = (sheet(random, MOST_STEPS, side, side, false), picture(random, side * side));
+    all.push(written(side, side, &steps, &source, 0));
     let example = spoil::split(EXAMPLE.as_bytes());
     for at in 0..example.len() {
         for way in 0..spoil::LINE_WAYS {

@@ -5,11 +5,11 @@ use reference::check::Answer;
 use reference::fault::Fault;
 use reference::render::{redraw, render, Sheet};
 use reference::step::{Region, Step};
-use reference::text::read_steps;
+use reference::text::steps_of;
 
 /// Step lines written with spaces for tabs.
 pub fn steps(lines: &str) -> Vec<Step> {
-    read_steps(lines.replace(' ', "\t").as_bytes(), Fault::None).expect("well formed")
+    steps_of(lines.replace(' ', "\t").as_bytes(), Fault::None).expect("well formed")
 }
 
 pub fn region(x: usize, y: usize, width: usize, height: usize) -> Region {
@@ -31,7 +31,7 @@ pub fn alphas(values: &[u8]) -> Vec<u8> {
 pub fn drawn(width: usize, height: usize, steps: &[Step], source: &[u8]) -> (Answer, Vec<u8>) {
     let size = 4 * width * height;
     let (mut workspace, mut scratch) = (vec![9; size * steps.len()], vec![9; 2 * size]);
-    let answer = render(Sheet { width, height, steps }, source, &mut workspace, &mut scratch, Fault::None);
+    let answer = render(Sheet::whole(width, height, steps), source, &mut workspace, &mut scratch, Fault::None);
     if answer == Answer::DONE {
         assert!(scratch.iter().all(|byte| *byte == 0), "scratch is all zero after an accepted call");
     } else {
@@ -58,5 +58,5 @@ pub fn redrawn(
     workspace: &mut [u8],
 ) -> (Answer, u64) {
     let mut scratch = vec![7; 8 * width * height];
-    redraw(Sheet { width, height, steps }, rect, source, workspace, &mut scratch, Fault::None)
+    redraw(Sheet::whole(width, height, steps), rect, source, workspace, &mut scratch, Fault::None)
 }

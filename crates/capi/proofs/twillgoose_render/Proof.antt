@@ -1,12 +1,14 @@
--- `capi::twillgoose_render` meets its contract: number and place are those of the answer by value. Assumes nothing.
-use mathlib.Core.Path.{ap}
+-- `capi::twillgoose_render` meets its contract: number, place and buffers are those of the answer by value. Assumes nothing.
+use mathlib.Core.Path.{refl, ap}
+use Rattle.render.specs.Promise.{drawnBytes}
+use Rattle.capi.specs.declared.Redrawing.{Redrawing}
+use Rattle.capi.specs.Lines.{replied, numberFor, placeFor}
 use borrow.Author.Needs.{needs}
-use Rattle.capi.specs.declared.Reply.{Reply}
 use Rattle.capi.proofs.twillgoose_render.Statement.{statement}
 use Rattle.capi.proofs.twillgoose_render.Tie as tie
 
-render-lines-requires : tie.Need-render-lines-requires
-render-lines-requires c κs = search needs
+call-lines-requires : tie.Need-call-lines-requires
+call-lines-requires c κs = search needs
 
 same-length : tie.Need-same-length
 same-length c = search needs
@@ -15,9 +17,10 @@ same-length-2 : tie.Need-same-length-2
 same-length-2 c = search needs
 
 returns : tie.Need-returns
+unfolding drawnBytes replied numberFor placeFor
 returns c =
-    let r = c .before .before .before .before .render-lines .ensures in
-    (ap (λ (x : Reply). x .number) (r .0), (ap (λ (x : Reply). x .place) (r .0), r .1))
+    let r = c .before .before .before .before .call-lines .ensures in
+    (ap (λ (x : Redrawing). x .number) (r .0), (ap (λ (x : Redrawing). x .place) (r .0), (r .1 .0, (r .1 .1 .0, r .1 .1 .1 .1))))
 
 pub twillgoose-render-spec : {M : Type 1} → statement M
-twillgoose-render-spec = tie.close (tie.spec render-lines-requires same-length same-length-2 returns)
+twillgoose-render-spec = tie.close (tie.spec call-lines-requires same-length same-length-2 returns)

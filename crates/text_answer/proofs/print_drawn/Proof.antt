@@ -14,9 +14,12 @@ draw-requires c κs = search needs
 
 print-answer-requires : tie.Need-print-answer-requires
 print-answer-requires c κs =
-    let s = c .before .before .before .before .before .before .before .before .before in
-    let n = length-replicate {A = ℕ} (s .args .sheet .count * size (s .args .width) (s .args .height)) 0 in
-    ((s .pre .0, s .pre .1, c .before .before .before .before .draw .kept .1 .1 .1 .1 .0 ∙ ap length (s .pre .2) ∙ n, s .pre .3), drawn-some _ _ _ _ _ _ (s .pre .2) (c .before .before .before .before .draw .ensures .0))
+    let s = c .before .before .before .before .before .before .before .before .before .before in
+    let d = c .before .before .before .before .draw in
+    let n = length-replicate {A = ℕ} (s .args .count * size (s .args .width) (s .args .height)) 0 in (
+      (s .pre .0 .0, s .pre .0 .1, d .kept .1 .1 .1 .1 .0 ∙ ap length (s .pre .1 .0) ∙ n, s .pre .1 .1),
+      drawn-some (s .args .text .now) (s .args .width) (s .args .height) (s .args .count) (s .args .source .now) (s .args .workspace .now) _ (s .pre .0 .2) (s .pre .1 .0) (d .ensures .0),
+    )
 
 same-length : tie.Need-same-length
 same-length c = search needs
@@ -26,8 +29,9 @@ same-length-2 c = search needs
 
 returns : tie.Need-returns
 returns c =
-    let s = c .before .before .before .before .before .before .before .before .before .before .before .before in
-    put-as (c .before .before .print-answer .ensures) _ (drawn-text _ _ _ _ _ _ (s .pre .2) (c .before .before .before .before .before .before .before .draw .ensures .0) _ (c .before .before .before .before .before .before .before .draw .ensures .1))
+    let s = c .before .before .before .before .before .before .before .before .before .before .before .before .before in
+    let d = c .before .before .before .before .before .before .before .draw in
+    put-as (c .before .before .print-answer .ensures) _ (drawn-text (s .args .text .now) (s .args .width) (s .args .height) (s .args .count) (s .args .source .now) (s .args .workspace .now) _ (s .pre .0 .2) (s .pre .1 .0) (d .ensures .0) _ (d .ensures .1))
 
 pub print-drawn-spec : {M : Type 1} → statement M
 print-drawn-spec =

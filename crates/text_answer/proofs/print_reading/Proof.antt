@@ -1,52 +1,62 @@
 -- `text_answer::print_reading` meets its contract. Assumes nothing.
 use mathlib.Core.Path.{sym}
 use native.Mathlib.Omega.{arith}
-use lib.Seq.{length-take-le}
-use borrow.Author.Tests.{not-true, not-false}
 use borrow.Author.Needs.{needs}
 use Rattle.text_print.proofs.Puts.{put-as}
-use Rattle.text_answer.proofs.Rooms.{size-le, refused-room}
-use Rattle.text_answer.proofs.Printed.{reading-bad, reading-good}
+use Rattle.text_answer.proofs.Rooms.{refused-room}
+use Rattle.text_answer.proofs.Printed.{reading-line, reading-records, reading-done}
 use Rattle.text_answer.proofs.print_reading.Statement.{statement}
 use Rattle.text_answer.proofs.print_reading.Tie as tie
 
+enum-told : tie.Need-enum-told
+enum-told c = search needs
+
+print-read-requires : tie.Need-print-read-requires
+print-read-requires c κs = search needs
+
+enum-known-answer : tie.Need-enum-known-answer
+enum-known-answer c = search needs
+
 put-refused-requires : tie.Need-put-refused-requires
-put-refused-requires c κs = refused-room _ _ _ (search needs) (search needs) (c .before .before .before .before .pre .1)
+put-refused-requires c κs = refused-room _ _ _ (search needs) (search needs) (c .before .before .before .before .before .before .pre .2)
+
+enum-told-2 : tie.Need-enum-told-2
+enum-told-2 c = search needs
+
+put-refused-requires-2 : tie.Need-put-refused-requires-2
+put-refused-requires-2 c κs = refused-room _ _ _ (search needs) (search needs) (c .before .before .before .before .before .pre .2)
 
 same-length : tie.Need-same-length
 same-length c = search needs
 
 returns : tie.Need-returns
-returns c = put-as (c .before .before .put-refused .ensures) _ (reading-bad _ (not-true _ (c .before .before .before .before .if1 .taken)))
-
-picture-size-requires : tie.Need-picture-size-requires
-picture-size-requires c κs = search needs
-
-array-share-prefix-pixels : tie.Need-array-share-prefix-pixels
-array-share-prefix-pixels c = let s = c .before .before .before .before .before .before in omega (arith, size-le (s .args .reading .width) (s .args .reading .height) (c .picture-size .ensures .0) (s .pre .0 .wide) (s .pre .0 .high), s .pre .0 .pixels)
-
-slice-aggregate-print-sheet : tie.Need-slice-aggregate-print-sheet
-slice-aggregate-print-sheet c = let s = c .before .before .before .before .before .before .before in sym (length-take-le _ _ (omega (arith, size-le (s .args .reading .width) (s .args .reading .height) (c .before .picture-size .ensures .0) (s .pre .0 .wide) (s .pre .0 .high), s .pre .0 .pixels)))
-
-print-sheet-requires : tie.Need-print-sheet-requires
-print-sheet-requires c κs = search needs
+returns c = put-as (c .before .before .print-read .ensures) _ (reading-done _ _ _ (search needs))
 
 same-length-2 : tie.Need-same-length-2
 same-length-2 c = search needs
 
 returns-2 : tie.Need-returns-2
-returns-2 c = put-as (c .before .before .print-sheet .ensures) _ (reading-good _ _ (not-false _ (c .before .before .before .before .before .before .before .before .if1 .left)) (c .before .before .before .before .before .picture-size .ensures .0))
+returns-2 c = put-as (c .before .before .put-refused .ensures) _ (reading-line _ _ _ _ (search needs))
+
+same-length-3 : tie.Need-same-length-3
+same-length-3 c = search needs
+
+returns-3 : tie.Need-returns-3
+returns-3 c = put-as (c .before .before .put-refused2 .ensures) _ (reading-records _ _ _ (search needs))
 
 pub print-reading-spec : {M : Type 1} → statement M
 print-reading-spec =
     tie.close
     (tie.spec
+    enum-told
+    print-read-requires
+    enum-known-answer
     put-refused-requires
+    enum-told-2
+    put-refused-requires-2
     same-length
     returns
-    picture-size-requires
-    array-share-prefix-pixels
-    slice-aggregate-print-sheet
-    print-sheet-requires
     same-length-2
-    returns-2)
+    returns-2
+    same-length-3
+    returns-3)

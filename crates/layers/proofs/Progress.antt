@@ -1,0 +1,111 @@
+-- The loop over the steps of a call: what holds after n of them, in a render as in a redraw, and one step more. Assumes nothing.
+use Prim.Native.Nat.{ℕ, _+_, _≤_, _<_}
+use mathlib.Core.Path.{_≡_, refl, sym, ap, _∙_, fun-ext}
+use mathlib.Core.Bool.{true, false}
+use mathlib.Core.List.{List}
+use native.Mathlib.Omega.{arith}
+use lib.ListN.{length, set, replicate}
+use Rattle.filter.specs.declared.Rect.{Rect}
+use Rattle.filter.specs.declared.Region.{Region}
+use Rattle.filter.specs.declared.Step.{Step}
+use Rattle.filter.specs.declared.Sheet.{Sheet}
+use Rattle.filter.specs.declared.Call.{Call}
+use Rattle.filter.specs.declared.Call.the-variants as C
+use Rattle.filter.specs.declared.Answer.{Answer}
+use Rattle.filter.specs.Rect.{canvasOf, boundsOf, empty}
+use Rattle.filter.specs.Layers.{damage, damages}
+use Rattle.filter.specs.Steps.{effectsOf, stepAt}
+use Rattle.filter.specs.Bytes.{Holds}
+use Rattle.filter.specs.Answers.{accepted?}
+use Rattle.filter.specs.Accepted.{Within, OnCanvas}
+use Rattle.filter.specs.Limits.{mostSteps}
+use Rattle.plan.specs.declared.Damages.{Damages}
+use Rattle.plan.proofs.Damaged.{Going, going-none, going-within, going-more}
+use Rattle.layers.specs.Drawing.{drawnOf, countFor, ReadyFor, Drawing}
+use Rattle.layers.specs.Next.{StepReady, RectsReady, NextReady, stepRect, StepDrawn, NextDrawn, ScratchAfter}
+use Rattle.layers.proofs.Rendering.{Rendering, rendering-none, rendering-ready, rendering-more, rendering-holds}
+use Rattle.layers.proofs.Redrawing.{Redrawing, redrawing-none, redrawing-ready, redrawing-more, redrawing-holds}
+
+named-within : (w h : ℕ) (g : Region) → OnCanvas w h g → Within w h (boundsOf g)
+named-within w h g k = record { right = k .right; bottom = k .bottom }
+
+module _ (sheet : Sheet) (steps : List Step) (src ws scr : List ℕ) where
+  abbrev w : ℕ
+  w = sheet .width
+
+  abbrev h : ℕ
+  h = sheet .height
+
+  abbrev count : ℕ
+  count = sheet .count
+
+  -- of an accepted call: what stands in the buffers, and the rectangles so far
+  unfoldable pub Stands : Call → ℕ → List ℕ → List ℕ → Damages → Type 0
+  Stands C.Render n d s z = Rendering w h steps count src ws scr n d s × (z .count ≡ 0)
+  Stands (C.Redraw g) n d s z = Redrawing w h steps count (boundsOf g) src ws scr n d s × Going w h steps (boundsOf g) n (z .rects) (z .count)
+
+  stands-none : (call : Call) (z : Damages) → z .rects ≡ replicate mostSteps empty → z .count ≡ 0 → Stands call 0 ws scr z
+  unfolding Stands
+  stands-none C.Render z a b = (rendering-none w h steps count src ws scr, b)
+  stands-none (C.Redraw g) z a b = (redrawing-none w h steps count (boundsOf g) src ws scr, rw (a, b) (going-none w h steps (boundsOf g) empty refl))
+
+  module _ (n : ℕ) (l : n < count) (d s : List ℕ) (z : Damages) where
+    step-ready : (call : Call) → ReadyFor call sheet steps src ws scr → Stands call n d s z → StepReady w h n (stepAt steps n) src d s
+    unfolding Stands
+    step-ready C.Render R G = rendering-ready w h steps count src ws scr (R .ready) n l d s (G .0) (stepAt steps n) refl (R .floods)
+    step-ready (C.Redraw g) R G =
+        redrawing-ready w h steps count (boundsOf g) src ws scr (R .ready) n l d s (G .0) (stepAt steps n) refl (R .floods) (R .redraw g refl .0)
+
+    rects-ready : (g : Region) → OnCanvas w h g → Stands (C.Redraw g) n d s z → RectsReady w h n g z
+    unfolding Stands
+    rects-ready g k G = record { within = going-within w h steps (boundsOf g) n (z .rects) (z .count) (G .1) (named-within w h g k); few = G .1 .few }
+
+    stands-ready : (call : Call) → ReadyFor call sheet steps src ws scr → Stands call n d s z → NextReady call sheet n (stepAt steps n) z src d s
+    stands-ready call R G = record { buffers = step-ready call R G; rects = λ g e. rects-ready g (R .redraw g e .1) (rw e at G) }
+
+    stands-more : (call : Call) → ReadyFor call sheet steps src ws scr → Stands call n d s z → (d′ s′ : List ℕ) (z′ : Damages)
+        → StepDrawn call sheet n (stepAt steps n) src d d′ z z′ → length s′ ≡ length s → Stands call (n + 1) d′ s′ z′
+    unfolding Stands StepDrawn
+    stands-more C.Render R G d′ s′ z′ D e = (
+      rendering-more w h steps count src ws scr (R .ready) n l d s (G .0) (stepAt steps n) refl d′ s′ (D .stood) e,
+      ap (λ (x : Damages). x .count) (D .same) ∙ G .1,
+    )
+    stands-more (C.Redraw g) R G d′ s′ z′ D e = (
+      redrawing-more w h steps count (boundsOf g) src ws scr (R .ready) n l d s (G .0) (stepAt steps n) refl (stepRect w h g (stepAt steps n) z) rect-is d′ s′ (D .stood) e,
+      rw (D .rects, D .count) (going-more w h steps (boundsOf g) n (z .rects) (z .count) (G .1) (omega (arith, R .ready .sheet .few)) (stepAt steps n) refl _ refl _ refl (D .small)),
+    )
+      where
+        rect-is : stepRect w h g (stepAt steps n) z ≡ damage (canvasOf w h) (effectsOf w h steps n) (damages (canvasOf w h) (effectsOf w h steps) (boundsOf g) n)
+        rect-is = ap (damage (canvasOf w h) (effectsOf w h steps n)) (fun-ext (G .1 .each))
+
+  stands-done : (d s : List ℕ) (z : Damages) (call : Call) → ReadyFor call sheet steps src ws scr → Stands call count d s z
+      → Holds w h count d (drawnOf call w h steps count ws src) × (length s ≡ length scr) × (z .count ≡ countFor call w h steps count)
+  unfolding Stands
+  stands-done d s z C.Render R G = (rendering-holds w h steps count src ws scr d s (R .ready .workspace) (G .0), G .0 .scratch, G .1)
+  stands-done d s z (C.Redraw g) R G = (redrawing-holds w h steps count (boundsOf g) src ws scr d s (R .ready .workspace) (G .0), G .0 .scratch, G .1 .sum)
+
+  -- what holds after n steps
+  pub record Progress (call : Call) (answer : Answer) (n : ℕ) (d s : List ℕ) (z : Damages) : Type 0 where
+    pub drawn : accepted? answer ≡ true → Stands call n d s z
+    pub refused : accepted? answer ≡ false → (d ≡ ws) × (s ≡ scr) × (z .count ≡ 0)
+
+  module _ (call : Call) (answer : Answer) where
+    pub progress-none : (z : Damages) → (z .rects ≡ replicate mostSteps empty) × (z .count ≡ 0) → Progress call answer 0 ws scr z
+    progress-none z e = record { drawn = λ _. stands-none call z (e .0) (e .1); refused = λ _. (refl, refl, e .1) }
+
+    module _ (R : accepted? answer ≡ true → ReadyFor call sheet steps src ws scr) where
+      module _ (n : ℕ) (l : n < count) (d s : List ℕ) (z : Damages) (P : Progress call answer n d s z) where
+        pub progress-ready : accepted? answer ≡ true → NextReady call sheet n (stepAt steps n) z src d s
+        progress-ready a = stands-ready n l d s z call (R a) (P .drawn a)
+
+        pub progress-more : (d′ s′ : List ℕ) (z′ : Damages) → NextDrawn call sheet answer n (stepAt steps n) src d d′ z z′ → ScratchAfter answer s s′ → Progress call answer (n + 1) d′ s′ z′
+        progress-more d′ s′ z′ D S = record {
+          drawn = λ a. stands-more n l d s z call (R a) (P .drawn a) d′ s′ z′ (D .drawn a) (S .long);
+          refused = λ a.
+              let e = D .refused a in
+              let p = P .refused a in
+              (e .0 ∙ p .0, S .refused a ∙ p .1, ap (λ (x : Damages). x .count) (e .1) ∙ p .2);
+        }
+
+      pub progress-done : (d s : List ℕ) (z : Damages) → Progress call answer count d s z → Drawing call sheet answer steps src ws scr d s (z .count)
+      progress-done d s z P = record { drawn = λ a. stands-done d s z call (R a) (P .drawn a); refused = P .refused }

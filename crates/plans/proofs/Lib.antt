@@ -1,0 +1,2 @@
+-- Laws of the rectangles.
+pub mod Rects

@@ -1,0 +1,63 @@
+-- `plans::next_damages` meets its contract: an accepted step has its rectangle. Assumes nothing.
+use mathlib.Core.Path.{_≡_, sym, ap, _∙_}
+use Prim.Native.Nat.{ℕ, _+_, _*_}
+use native.Mathlib.Omega.{arith}
+use lib.ListN.{length, length-set}
+use borrow.Author.Tests.{not-false}
+use borrow.Author.Needs.{needs}
+use Rattle.filter.specs.declared.Input.the-variants.{Source}
+use Rattle.filter.specs.declared.Rect.{Rect}
+use Rattle.filter.specs.Limits.{longestSide}
+use Rattle.filter.specs.Answers.{accepted?}
+use Rattle.plan.specs.Damage.{rectOf, AllWithin}
+use Rattle.plan.proofs.Acceptance.{accepted-step}
+use Rattle.plan.proofs.Damaged.{within-more, region-more}
+use Rattle.plans.proofs.Rects.{more-within}
+use Rattle.plans.proofs.next_damages.Statement.{statement}
+use Rattle.plans.proofs.next_damages.Tie as tie
+
+check-step-requires : tie.Need-check-step-requires
+check-step-requires c κs = search needs
+
+is-accepted-requires : tie.Need-is-accepted-requires
+is-accepted-requires c κs = search needs
+
+returns : tie.Need-returns
+returns c = let s = c .before .before .before in (omega (arith, s .pre .0 .3), s .pre .1 .0, s .pre .1 .1)
+
+step-damage-requires : tie.Need-step-damage-requires
+step-damage-requires c κs =
+    let s = c .before .before .before .before in
+    let a = s .args in
+    let A = accepted-step (a .w) (a .h) (a .n) (a .step) (ap accepted? (sym (c .before .before .before .check-step .ensures)) ∙ sym (c .before .before .is-accepted .ensures) ∙ not-false _ (c .before .if1 .left)) in
+    (A .numbers, region-more (a .w) (a .h) (a .step .region) (s .pre .0 .1) (s .pre .0 .2) (A .region), s .pre .1 .1)
+
+with-damage-requires : tie.Need-with-damage-requires
+with-damage-requires c κs =
+    let s = c .before .before .before .before .before in
+    let a = s .args in
+    (s .pre .0 .0, s .pre .0 .3, within-more (a .w) (a .h) (c .step-damage .result) (s .pre .0 .1) (s .pre .0 .2) (c .step-damage .ensures .1))
+
+returns-2 : tie.Need-returns-2
+unfolding rectOf
+returns-2 c =
+    let s = c .before .before .before .before .before .before in
+    let a = s .args in
+    let D = c .before .step-damage in
+    let E = c .with-damage .ensures in
+    let z = within-more (a .w) (a .h) (D .result) (s .pre .0 .1) (s .pre .0 .2) (D .ensures .1) in (
+      omega (arith, E .1, E .2, s .pre .0 .3),
+      ap length (E .0) ∙ length-set (a .damages .rects) (a .n) (D .result) ∙ s .pre .1 .0,
+      rw (E .0) (more-within longestSide longestSide (a .named) (s .pre .1 .1 .each Source) (a .n) (D .result) (a .damages .rects) (omega (arith, s .pre .0 .0, s .pre .1 .0)) z (s .pre .1 .1)),
+    )
+
+pub next-damages-spec : {M : Type 1} → statement M
+next-damages-spec =
+    tie.close
+    (tie.spec
+    check-step-requires
+    is-accepted-requires
+    returns
+    step-damage-requires
+    with-damage-requires
+    returns-2)

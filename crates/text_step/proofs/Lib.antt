@@ -1,0 +1,4 @@
+-- Laws that the proofs of the reader cite.
+pub mod Gathered
+pub mod Stored
+pub mod Assembled

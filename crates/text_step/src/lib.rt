@@ -1,0 +1,39 @@
+// The line of one step: RULES 9.
+mod kinds;
+pub mod step_lines;
+
+use filter::Input;
+use filter::Kind;
+use filter::Operand;
+use filter::Step;
+use filter::Wire;
+
+// The kind that a step line names.
+pub enum Named {
+    Known(Kind),
+    Unknown,
+}
+
+// What an input's field refers to.
+pub enum Reference {
+    To(Input),
+    Nowhere,
+}
+
+// The inputs of a step line, and whether each is of the form.
+pub struct Wires {
+    pub good: bool,
+    pub wires: [Wire; 4],
+}
+
+// The numbers of a step line, and whether each is of the form.
+pub struct Operands {
+    pub good: bool,
+    pub operands: [Operand; 20],
+}
+
+// The step of a line, and a blank one where the line is not of the form.
+pub struct StepLine {
+    pub good: bool,
+    pub step: Step,
+}

@@ -1,0 +1,211 @@
+// The line of a step.
+use super::Named;
+use super::Operands;
+use super::Reference;
+use super::StepLine;
+use super::Wires;
+use super::kinds::byte_count;
+use super::kinds::is_sound;
+use super::kinds::kind_of;
+use filter::Input;
+use filter::Kind;
+use filter::Operand;
+use filter::Region;
+use filter::Step;
+use filter::Wire;
+use number::Number;
+use plan::steps::input_count;
+use plan::steps::number_count;
+use text_field::Amount;
+use text_field::Numeral;
+use text_field::decimals::number_of;
+use text_field::lines::count;
+use text_field::lines::equals;
+use text_field::lines::field;
+use text_field::wholes::is_given;
+use text_field::wholes::value_in;
+use text_field::wholes::whole;
+use window::both;
+ghost use mathlib.Core.Path.{_≡_};
+ghost use Prim.Native.Nat.{_+_, _≤_};
+ghost use lib.ListN.{length, take, drop};
+ghost use Rattle.text_field.specs.Split.{split};
+ghost use Rattle.text_field.specs.Field.{given};
+ghost use Rattle.text_step.specs.StepLine.{wholeField, wholeAt, region?, regionOf, layerOf, inputOf, wiresOf, operandsOf, noStep, assembled, stepAs, stepOf};
+
+// Field i as a whole field.
+pub fn whole_at(line: &[u8], i: usize) -> usize
+    ensures { λ o. ⌜ o ≡ wholeAt (split 9 (now (line .entry))) i ⌝ }
+{
+    value_in(whole(field(line, i))) as usize
+}
+
+fn whole_given(line: &[u8], i: usize) -> bool
+    ensures { λ o. ⌜ o ≡ given (wholeField (split 9 (now (line .entry))) i) ⌝ }
+{
+    is_given(whole(field(line, i)))
+}
+
+fn region_given(line: &[u8]) -> bool
+    ensures { λ o. ⌜ o ≡ region? (split 9 (now (line .entry))) ⌝ }
+{
+    both(
+        whole_given(line, 1),
+        both(
+            whole_given(line, 2),
+            both(whole_given(line, 3), whole_given(line, 4)),
+        ),
+    )
+}
+
+fn region_of(line: &[u8]) -> Region
+    ensures { λ o. ⌜ o ≡ regionOf (split 9 (now (line .entry))) ⌝ }
+{
+    Region {
+        x: whole_at(line, 1),
+        y: whole_at(line, 2),
+        width: whole_at(line, 3),
+        height: whole_at(line, 4),
+    }
+}
+
+fn layer_of(r: Amount) -> Reference
+    ensures { λ o. ⌜ o ≡ layerOf r ⌝ }
+{
+    match r {
+        Amount::Is(n) => Reference::To(Input::Layer(n as usize)),
+        Amount::Not => Reference::Nowhere,
+    }
+}
+
+// The field of an input.
+fn input_of(f: &[u8]) -> Reference
+    ensures { λ r. ⌜ r ≡ inputOf (now (f .entry)) ⌝ }
+{
+    if equals(f, b"src") {
+        return Reference::To(Input::Source);
+    }
+    if equals(f, b"alpha") {
+        return Reference::To(Input::SourceAlpha);
+    }
+    layer_of(whole(f))
+}
+
+// The inputs of n fields from the field at on.
+fn wires_of(line: &[u8], at: usize, n: usize) -> Wires
+    requires { ⌜ (n ≤ 4) × (at + n ≤ length (split 9 (now line))) ⌝ }
+    ensures { λ r. ⌜ r ≡ wiresOf (take n (drop at (split 9 (now (line .entry))))) ⌝ }
+{
+    let source = Wire {
+        input: Input::Source,
+    };
+    let mut wires = [source; 4];
+    let mut i = 0;
+    while i < n {
+        match input_of(field(line, at + i)) {
+            Reference::To(x) => {
+                wires[i] = Wire { input: x };
+            }
+            Reference::Nowhere => {
+                return Wires {
+                    good: false,
+                    wires: [source; 4],
+                };
+            }
+        }
+        i += 1;
+    }
+    Wires { good: true, wires }
+}
+
+// The numbers of n fields from the field at on.
+fn operands_of(line: &[u8], at: usize, n: usize) -> Operands
+    requires { ⌜ (n ≤ 20) × (at + n ≤ length (split 9 (now line))) ⌝ }
+    ensures { λ r. ⌜ r ≡ operandsOf (take n (drop at (split 9 (now (line .entry))))) ⌝ }
+{
+    let zero = Operand {
+        number: Number::Decimal(0),
+    };
+    let mut operands = [zero; 20];
+    let mut i = 0;
+    while i < n {
+        match number_of(field(line, at + i)) {
+            Numeral::Reads(x) => {
+                operands[i] = Operand { number: x };
+            }
+            Numeral::Malformed => {
+                return Operands {
+                    good: false,
+                    operands: [zero; 20],
+                };
+            }
+        }
+        i += 1;
+    }
+    Operands {
+        good: true,
+        operands,
+    }
+}
+
+fn no_step() -> StepLine
+    ensures { λ o. ⌜ o ≡ noStep ⌝ }
+{
+    StepLine {
+        good: false,
+        step: Step::blank(),
+    }
+}
+
+fn assemble(kind: Kind, given: bool, region: Region, w: Wires, o: Operands) -> StepLine
+    ensures { λ s. ⌜ s ≡ assembled kind given region w o ⌝ }
+{
+    if both(given, both(w.good, o.good)) {
+        let inputs = w.wires;
+        let numbers = o.operands;
+        return StepLine {
+            good: true,
+            step: Step {
+                kind,
+                region,
+                inputs,
+                numbers,
+            },
+        };
+    }
+    no_step()
+}
+
+// The line of n fields of a kind.
+fn step_as(line: &[u8], kind: Kind, n: usize) -> StepLine
+    requires { ⌜ n ≡ length (split 9 (now line)) ⌝ }
+    ensures { λ o. ⌜ o ≡ stepAs kind (split 9 (now (line .entry))) ⌝ }
+{
+    if !is_sound(kind, line) {
+        return no_step();
+    }
+    let bytes = byte_count(kind);
+    let inputs = input_count(kind);
+    let numbers = number_count(kind);
+    if n != 5 + bytes + inputs + numbers {
+        return no_step();
+    }
+    assemble(
+        kind,
+        region_given(line),
+        region_of(line),
+        wires_of(line, 5 + bytes, inputs),
+        operands_of(line, 5 + bytes + inputs, numbers),
+    )
+}
+
+// The line of a step.
+pub fn step_of(line: &[u8]) -> StepLine
+    ensures { λ o. ⌜ o ≡ stepOf (split 9 (now (line .entry))) ⌝ }
+{
+    let n = count(line);
+    let Named::Known(kind) = kind_of(line, n) else {
+        return no_step();
+    };
+    step_as(line, kind, n)
+}
