@@ -9,8 +9,8 @@
 #define STEPS 2
 #define PICTURE (4 * WIDTH * HEIGHT)
 
-static const char steps[] = "flood\t0\t0\t1\t1\t255\t0\t0\t0.5\n"
-                            "over\t0\t0\t2\t1\t0\tsrc\n";
+static const char steps[] = "flood\t0\t0\t1\t1\t255\t0\t0\t0.5\tsrgb\n"
+                            "over\t0\t0\t2\t1\t0\tsrc\tsrgb\n";
 
 static void show(const char *name, uint64_t number, uint64_t place, const uint8_t *workspace)
 {

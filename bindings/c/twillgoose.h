@@ -12,11 +12,11 @@
  * A slice is a pointer and its length in bytes. Every length and every number is checked: what does not fit is refused,
  * and a refused render or redraw changes no byte of any slice. What the library cannot check is the caller's part: a
  * pointer is not null, not even with length 0, and has that many bytes behind it, and what is written does not overlap
- * anything else that is passed. Nothing is allocated; a call uses up to 160 KB of stack,
- * twillgoose_sheet up to 230 KB.
+ * anything else that is passed. Nothing is allocated; a call uses up to 230 KB of stack,
+ * twillgoose_sheet up to 300 KB.
  *
  * Steps are lines of text, each closed by a line feed, their fields parted by one tab: kind, x, y, width, height of its
- * region, inputs (src, alpha, or the number of an earlier step), numbers:
+ * region, inputs (src, alpha, or the number of an earlier step), numbers, and optionally the space that it works in:
  *
  *     flood     R G B opacity           bytes; 0 to 1
  *     offset    input dx dy             whole, -1024 to 1024
@@ -30,16 +30,21 @@
  *     arith     input input k1 .. k4    -256 to 256
  *     merge     1 to 4 inputs           bottom first
  *
+ * The space is srgb or linear; without that last field a step works in linear light. The source is sRGB. Each layer is
+ * kept in its step's space, and its bytes in the workspace are in it: a step of the other space reads them converted, and
+ * so must whoever shows them. With srgb on every step nothing is converted.
+ *
  * Whole fields (the region, a step's number, a flood's bytes) have 1 to 4 digits, no sign and no leading zeros. A number
  * is an optional minus, 1 to 5 digits without leading zeros, optionally a point and 1 to 4 digits; or x and the eight
- * lower-case hexadecimal digits of a single. It is checked as it stands, then rounded to the nearest 1/65,536. A single halfway between two goes to the
- * even one; no decimal lies there.
+ * lower-case hexadecimal digits of a single. It is checked as it stands, then rounded to the nearest 1/65,536. A single
+ * halfway between two goes to the even one; no decimal lies there.
  *
  * Answers, in the order of checking. The place is 0 unless said:
  *
  *      0  done
  *     15  a step line is not of the form; so are a sixty-fifth line,    place: the line, from 1
- *         a flood's byte above 255 and a merge of 0 or 5 inputs
+ *         a flood's byte above 255, a merge of 0 or 5 inputs and
+ *         another word for the space
  *      1  width or height is 0 or above 1,024
  *      2  the source is not 4 * W * H bytes
  *      3  no step
@@ -69,7 +74,7 @@ extern "C" {
 #endif
 
 /* The rules that this header describes. */
-#define TWILLGOOSE_RULES 4
+#define TWILLGOOSE_RULES 5
 
 enum {
     TWILLGOOSE_DONE = 0,
@@ -90,7 +95,7 @@ enum {
 };
 
 /* Draws every layer of the steps on the picture in `source`. Returns the number and stores the place. Done: `workspace`
- * holds the layers, each a valid picture, and `scratch` is all zero. Refused: both are as they were. */
+ * holds the layers, each a valid picture in its step's space, and `scratch` is all zero. Refused: both are as they were. */
 uint64_t twillgoose_render(size_t width, size_t height,
                            const uint8_t *steps, size_t steps_length,
                            const uint8_t *source, size_t source_length,
@@ -112,14 +117,15 @@ uint64_t twillgoose_redraw(size_t width, size_t height,
                            uint64_t *place, uint64_t *count);
 
 /* Where layer n lies in a workspace of so many bytes: returns its length, 4 * W * H, and stores the offset of its first
- * byte. Both are 0 where the canvas, the count of steps or the length is not valid, or there is no such layer. */
+ * byte. Both are 0 where the canvas, the count of steps or the length is not valid, or there is no such layer. The bytes
+ * are in the space of step n. */
 uint64_t twillgoose_layer(size_t width, size_t height, size_t steps, size_t n, size_t workspace_length,
                           uint64_t *offset);
 
 /* Answers a whole sheet as text (a `canvas` line with two sides of 0 to 16, steps, rows of pixels), as the program `sheet`
- * does: `ok` and the last layer as rows, or `refused`, number and place. A text over 65,536 bytes is refused with 15 at
- * place 0. Returns the length of the answer, a refusal's too, which is stored at the start of `out` where it fits;
- * otherwise `out` is as it was. 2,371 bytes are enough for every answer. */
+ * does: `ok` and the last layer as rows, in sRGB whatever its step's space, or `refused`, number and place. A text over
+ * 65,536 bytes is refused with 15 at place 0. Returns the length of the answer, a refusal's too, which is stored at the
+ * start of `out` where it fits; otherwise `out` is as it was. 2,371 bytes are enough for every answer. */
 uint64_t twillgoose_sheet(const uint8_t *text, size_t text_length,
                           uint8_t *out, size_t out_length);
 

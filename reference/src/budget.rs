@@ -3,10 +3,10 @@
 use crate::cases::{self, Case};
 use crate::compare::{redraw_is_render, same_call, seeded, Reference, Renderer, CHECKS};
 use crate::fault::{Fault, ALL};
-use crate::print;
+use crate::print::{self, Style};
 use crate::random::Random;
 use crate::step::Region;
-use crate::sums::{source, EDIT, GLOW, SEED, SHADOW, SIDE};
+use crate::sums::{in_linear_light, source, EDIT, GLOW, SEED, SHADOW, SIDE};
 use std::time::{Duration, Instant};
 
 /// Comparisons made, and what went wrong in some of them.
@@ -31,20 +31,23 @@ impl Tally {
     }
 }
 
-/// A case at 1,024 × 1,024: the shadow sheet, the glow sheet, then random ones of a few steps.
+/// A case at 1,024 × 1,024: the shadow sheet and the glow sheet, in sRGB and in linear light, then random ones of a few
+/// steps.
 fn large(seed: u64) -> Case {
     let mut random = Random::new(seed ^ 0x1024);
     let pixels = SIDE * SIDE;
     let steps = match seed {
         0 => SHADOW.into(),
         1 => GLOW.into(),
-        _ => print::steps(&cases::sheet(&mut random, 3, SIDE, SIDE, false), 0).into_bytes(),
+        2 => in_linear_light(SHADOW).into(),
+        3 => in_linear_light(GLOW).into(),
+        _ => print::steps(&cases::sheet(&mut random, 3, SIDE, SIDE, false), Style::default()).into_bytes(),
     };
     let count = steps.iter().filter(|byte| **byte == b'\n').count();
     let (x, y) = (random.below(SIDE), random.below(SIDE));
     let near = Region { x, y, width: random.below(SIDE - x).min(40), height: random.below(SIDE - y).min(40) };
-    let source = if seed < 2 { source(SEED, pixels) } else { cases::picture(&mut random, pixels) };
-    let rect = if seed < 2 { EDIT } else { near };
+    let source = if seed < 4 { source(SEED, pixels) } else { cases::picture(&mut random, pixels) };
+    let rect = if seed < 4 { EDIT } else { near };
     Case {
         width: SIDE,
         height: SIDE,
@@ -62,7 +65,7 @@ fn large_failures(renderer: &dyn Renderer, seed: u64) -> Vec<String> {
     results.into_iter().filter_map(Result::err).collect()
 }
 
-/// Seeded cases until the time is over, about a third of it on large ones; at least both large sheets and a few hundred
+/// Seeded cases until the time is over, about a third of it on large ones; at least the four large sheets and a few hundred
 /// small ones.
 pub fn compare(renderer: &dyn Renderer, seconds: u64, seed: u64) -> Tally {
     let mut tally = Tally::default();
@@ -70,7 +73,7 @@ pub fn compare(renderer: &dyn Renderer, seconds: u64, seed: u64) -> Tally {
     let mut on_large = Duration::ZERO;
     let (mut small, mut big) = (0, 0);
     while small < 300 || start.elapsed() < time {
-        if big < 2 || 3 * on_large <= start.elapsed() {
+        if big < 4 || 3 * on_large <= start.elapsed() {
             let began = Instant::now();
             tally.add(&format!("large case {big}"), 2, &large_failures(renderer, big));
             on_large += began.elapsed();

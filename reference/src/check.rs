@@ -137,7 +137,8 @@ fn step(n: usize, step: &Step, call: &Call, fault: Fault) -> Result<Checked, u8>
     if leaves {
         return Err(13);
     }
-    Ok(Checked { kind: step.kind, region: step.region, inputs: used(step).to_vec(), colour: step.colour, units })
+    let Step { kind, region, colour, space, .. } = *step;
+    Ok(Checked { kind, region, inputs: used(step).to_vec(), colour, units, space })
 }
 
 /// The first pixel with a colour above its alpha, counted from 0 in its buffer.

@@ -5,39 +5,67 @@ use crate::number::UNIT;
 use crate::picture::Picture;
 use crate::pixel::{arithmetic, composite, flood, luminance, matrix, merge, saturate, Matrix, Pixel};
 use crate::rect::Rect;
+use crate::space::{self, Space};
 use crate::step::{Checked, Input, Kind};
 use crate::window::{blur, extreme};
 
-/// What stands at every input: the source, its alpha, and the layers.
+/// What stands at every input: the source, its alpha, and the layers, each in its own space.
 pub struct Stand {
     pub source: Picture,
     pub alpha: Picture,
     pub layers: Vec<Picture>,
+    spaces: Vec<Space>,
 }
 
 impl Stand {
-    pub fn new(source: Picture, layers: Vec<Picture>, fault: Fault) -> Stand {
+    pub fn new(source: Picture, layers: Vec<Picture>, steps: &[Checked], fault: Fault) -> Stand {
         let alpha = if fault.is(Fault::AlphaKeepsColour) { source.clone() } else { source.alpha() };
-        Stand { source, alpha, layers }
+        Stand { source, alpha, layers, spaces: steps.iter().map(|step| step.space).collect() }
     }
 
-    pub fn at(&self, input: Input) -> &Picture {
+    /// "The source is sRGB. A layer is kept in its step's space."
+    fn at(&self, input: Input, fault: Fault) -> (Space, &Picture) {
+        let source = fault.choose(Fault::SourceIsLinear, Space::Srgb, Space::Linear);
         match input {
-            Input::Source => &self.source,
-            Input::Alpha => &self.alpha,
-            Input::Layer(n) => &self.layers[n],
+            Input::Source => (source, &self.source),
+            Input::Alpha => (source, &self.alpha),
+            Input::Layer(n) => (fault.choose(Fault::LayersAreSrgb, self.spaces[n], Space::Srgb), &self.layers[n]),
         }
+    }
+
+    /// ".. and converted when a step of the other space reads it."
+    fn seen(&self, input: Input, step: &Checked, fault: Fault) -> Picture {
+        let (space, picture) = self.at(input, fault);
+        let stored = match step.kind {
+            Kind::Offset => fault.is(Fault::OffsetUnconverted),
+            Kind::Merge => fault.is(Fault::MergeUnconverted),
+            _ => false,
+        };
+        space::picture(if stored { step.space } else { space }, step.space, picture, fault)
+    }
+}
+
+/// "Floods are made as in 01, then converted."
+fn flooded(step: &Checked, fault: Fault) -> Pixel {
+    let opacity = step.units[0];
+    match (step.space, fault) {
+        (Space::Srgb, _) | (_, Fault::FloodUnconverted) => flood(step.colour, opacity, fault),
+        (_, Fault::FloodBytesConverted) => {
+            let colour = step.colour.map(|u| space::straight(step.space, u.into(), fault) as u8);
+            flood(colour, opacity, fault)
+        }
+        _ => space::convert(step.space, flood(step.colour, opacity, fault), fault),
     }
 }
 
 /// A step's result before the region cuts it.
 pub fn work(step: &Checked, stand: &Stand, fault: Fault) -> Picture {
     let (width, height) = (stand.source.width, stand.source.height);
-    let inputs: Vec<&Picture> = step.inputs.iter().map(|input| stand.at(*input)).collect();
+    let inputs: Vec<Picture> = step.inputs.iter().map(|input| stand.seen(*input, step, fault)).collect();
     let units = &step.units;
     match step.kind {
         Kind::Flood => {
-            let colour = flood(step.colour, units[0], fault);
+            let colour = flooded(step, fault);
             Picture::of(width, height, |_, _| colour)
         }
         Kind::Offset => {
@@ -46,10 +74,10 @@ pub fn work(step: &Checked, stand: &Stand, fault: Fault) -> Picture {
             let (dx, dy) = (way * units[0] / UNIT, way * units[1] / UNIT);
             Picture::of(width, height, |x, y| inputs[0].at(x - dx, y - dy))
         }
-        Kind::Blur => blur(inputs[0], units[0], units[1], Rect::of(step.region), fault),
+        Kind::Blur => blur(&inputs[0], units[0], units[1], Rect::of(step.region), fault),
         Kind::Erode | Kind::Dilate => {
             let largest = (step.kind == Kind::Dilate) != fault.is(Fault::ErodeIsDilate);
-            extreme(inputs[0], units[0] / UNIT, units[1] / UNIT, largest, fault)
+            extreme(&inputs[0], units[0] / UNIT, units[1] / UNIT, largest, fault)
         }
         Kind::Matrix => {
             let m: Matrix = units[..].try_into().expect("20 numbers");

@@ -5,7 +5,7 @@
 //! that docs/RULES.md restates.
 //!
 //! - `wide`, `number`: exact values, refusals 8 to 11, units
-//! - `pixel`, `window`, `filter`: the arithmetic of one pixel, neighbourhoods, the work of each kind
+//! - `pixel`, `space`, `window`, `filter`: the arithmetic of one pixel, working spaces, neighbourhoods, the work of each kind
 //! - `rect`, `damage`: rectangles of a redraw and their count
 //! - `step`, `check`, `render`: sheets, the refusal table, the entry points
 //! - `line`, `text`, `print`: the text form, the reader into a lent list, and what `sheet` prints
@@ -31,6 +31,7 @@ pub mod program;
 pub mod random;
 pub mod rect;
 pub mod render;
+pub mod space;
 pub mod step;
 pub mod sums;
 pub mod text;

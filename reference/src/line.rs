@@ -2,6 +2,7 @@
 
 use crate::fault::Fault;
 use crate::number::Number;
+use crate::space::{Space, SPACES};
 use crate::step::{Input, Kind, Region, Step, KINDS};
 
 /// "`canvas` W H (0 to 16 each)."
@@ -89,10 +90,47 @@ fn flood_byte(field: &[u8], fault: Fault) -> Option<u8> {
     }
 }
 
-/// "A step is its kind, x, y, width, height, inputs, numbers."
+/// The word of a working space.
+fn space(field: &[u8], fault: Fault) -> Option<Space> {
+    let same = |word: &str| {
+        let any_case = fault.is(Fault::SpaceOfAnyCase) && field.eq_ignore_ascii_case(word.as_bytes());
+        let long = fault.is(Fault::SpaceAsInCss) && field == format!("{word}RGB").as_bytes();
+        field == word.as_bytes() || any_case || long
+    };
+    if field.is_empty() && fault.is(Fault::EmptySpace) {
+        return Some(Space::Linear);
+    }
+    SPACES.iter().find(|(word, _)| same(word)).map(|(_, space)| *space)
+}
+
+/// How many fields a step of the kind has without its space; nothing for a merge, which has 6 to 9.
+fn fixed_fields(kind: Kind) -> Option<usize> {
+    let bytes = if kind == Kind::Flood { 3 } else { 0 };
+    (kind != Kind::Merge).then_some(5 + bytes + kind.inputs().0 + kind.ranges().len())
+}
+
+/// "An optional last field `srgb` or `linear`; absent now means linear": the space, and the fields before it. A field after
+/// the last that the kind has must be one of the words. A merge's last field is the space where it is one of them: no input
+/// is so called.
+fn spaced<'a, 'b>(kind: Kind, fields: &'a [&'b [u8]], fault: Fault) -> Option<(Space, &'a [&'b [u8]])> {
+    let absent = fault.choose(Fault::AbsentIsSrgb, Space::Linear, Space::Srgb);
+    let (last, before) = fields.split_last()?;
+    if fault.is(Fault::SpaceTwice) && before.last().is_some_and(|field| space(field, fault).is_some()) {
+        return spaced(kind, before, Fault::None);
+    }
+    match fixed_fields(kind) {
+        Some(most) if fields.len() == most + 1 => Some((space(last, fault)?, before)),
+        Some(_) => Some((absent, fields)),
+        None if fault.is(Fault::FourWithoutSpace) && fields.len() == 10 => Some((absent, fields)),
+        None => Some(space(last, fault).map_or((absent, fields), |space| (space, before))),
+    }
+}
+
+/// "A step is its kind, x, y, width, height, inputs, numbers", and its working space.
 pub fn step(line: &[u8], fault: Fault) -> Option<Step> {
     let fields = fields(line);
     let kind = KINDS.iter().find(|(word, _)| word.as_bytes() == fields[0])?.1;
+    let (space, fields) = spaced(kind, &fields, fault)?;
     if fields.len() < 5 {
         return None;
     }
@@ -120,6 +158,7 @@ pub fn step(line: &[u8], fault: Fault) -> Option<Step> {
         inputs: inputs.iter().map(|field| input(field, fault)).collect::<Option<_>>()?,
         colour,
         numbers: numbers.iter().map(|field| number(field, fault)).collect::<Option<_>>()?,
+        space,
     })
 }
 

@@ -3,7 +3,9 @@
 use crate::check::Answer;
 use crate::fault::Fault;
 use crate::number::Number;
+use crate::picture::Picture;
 use crate::render::{render, Sheet};
+use crate::space::{self, Space};
 use crate::step::{Input, Kind, Step};
 use crate::text::{read, Limits, Reading, LIMITS};
 
@@ -20,7 +22,7 @@ pub fn sheet_within(text: &[u8], limits: Limits, fault: Fault) -> Vec<u8> {
     }
 }
 
-/// The canvas's width and the last layer of a text.
+/// The canvas's width and the last layer of a text: "`sheet` prints the last layer in sRGB".
 fn drawn(text: &[u8], limits: Limits, fault: Fault) -> Result<(usize, Vec<u8>), Answer> {
     let mut list = vec![Step::BLANK; limits.steps];
     let Reading { width, height, count, source } = read(text, &mut list, limits, fault)?;
@@ -29,7 +31,11 @@ fn drawn(text: &[u8], limits: Limits, fault: Fault) -> Result<(usize, Vec<u8>), 
     let mut scratch = vec![0; 2 * size];
     let sheet = Sheet { width, height, steps: &list, count };
     match render(sheet, &source, &mut workspace, &mut scratch, fault) {
-        Answer::DONE => Ok((width, workspace[size * (count - 1)..].to_vec())),
+        Answer::DONE => {
+            let last = Picture::from_bytes(width, height, &workspace[size * (count - 1)..]);
+            let space = fault.choose(Fault::LastLayerRaw, list[count - 1].space, Space::Srgb);
+            Ok((width, space::picture(space, Space::Srgb, &last, fault).bytes()))
+        }
         answer => Err(answer),
     }
 }
@@ -55,8 +61,16 @@ pub fn number(number: Number, places: usize) -> String {
     }
 }
 
-/// A step as a line, its line feed included.
-pub fn step(step: &Step, places: usize) -> String {
+/// How steps are written: decimals with at least so many digits after the point, 0 to 4; bit n (mod 64) of `named` says
+/// whether step n has the field `linear`, which may be left out.
+#[derive(Clone, Copy, Default)]
+pub struct Style {
+    pub places: usize,
+    pub named: u64,
+}
+
+/// Step n as a line, its line feed included.
+pub fn step(step: &Step, n: usize, style: Style) -> String {
     let region = step.region;
     let mut fields = vec![step.kind.word().to_string()];
     fields.extend([region.x, region.y, region.width, region.height].map(|n| n.to_string()));
@@ -68,11 +82,20 @@ pub fn step(step: &Step, places: usize) -> String {
     if step.kind == Kind::Flood {
         fields.extend(step.colour.map(|byte| byte.to_string()));
     }
-    fields.extend(step.numbers.iter().map(|n| number(*n, places)));
+    fields.extend(step.numbers.iter().map(|n| number(*n, style.places)));
+    if step.space == Space::Srgb || style.named >> (n % 64) & 1 == 1 {
+        fields.push(step.space.word().to_string());
+    }
     fields.join("\t") + "\n"
 }
 
 /// Steps as lines.
-pub fn steps(all: &[Step], places: usize) -> String {
-    all.iter().map(|one| step(one, places)).collect()
+pub fn steps(all: &[Step], style: Style) -> String {
+    all.iter().enumerate().map(|(n, one)| step(one, n, style)).collect()
+}
+
+/// Lines that name no space, each with `srgb`. Their fields are parted by tabs or by spaces, as in the lines given.
+pub fn in_srgb(lines: &str) -> String {
+    let tab = if lines.contains('\t') { '\t' } else { ' ' };
+    lines.lines().map(|line| format!("{line}{tab}srgb\n")).collect()
 }

@@ -60,7 +60,7 @@ pub fn render(sheet: Sheet, source: &[u8], workspace: &mut [u8], scratch: &mut [
     };
     let blank = Picture::blank(sheet.width, sheet.height);
     let source = Picture::from_bytes(sheet.width, sheet.height, source);
-    let mut stand = Stand::new(source, vec![blank.clone(); steps.len()], fault);
+    let mut stand = Stand::new(source, vec![blank.clone(); steps.len()], &steps, fault);
     for (n, step) in drawn(&steps, fault) {
         let cut = fault.choose(
             Fault::RegionNotCut,
@@ -92,8 +92,8 @@ pub fn redraw(
     let size = 4 * sheet.width * sheet.height;
     let old: Vec<Picture> =
         workspace.chunks_exact(size).map(|layer| Picture::from_bytes(sheet.width, sheet.height, layer)).collect();
-    let mut stand = Stand::new(source.clone(), old.clone(), fault);
-    let before = Stand::new(source, old, fault);
+    let mut stand = Stand::new(source.clone(), old.clone(), &steps, fault);
+    let before = Stand::new(source, old, &steps, fault);
     for (n, step) in drawn(&steps, fault) {
         let from = if fault.is(Fault::RedrawnFromOld) { &before } else { &stand };
         let rect = fault.choose(Fault::WholeRegionRedrawn, rects[n], Rect::of(step.region));

@@ -1,7 +1,8 @@
-//! Sheets: kinds of steps, their inputs, numbers and regions.
+//! Sheets: kinds of steps, their inputs, numbers, regions and working spaces.
 
 use crate::number::{Number, Range};
 use crate::pixel::Operator;
+use crate::space::Space;
 
 /// "Raise the limit from 16 to 64": a sheet has 1 to 64 steps.
 pub const MOST_STEPS: usize = 64;
@@ -71,16 +72,18 @@ pub struct Step {
     pub inputs: Vec<Input>,
     pub colour: [u8; 3],
     pub numbers: Vec<Number>,
+    pub space: Space,
 }
 
 impl Step {
-    /// A record that nothing was read into: a merge of nothing on an empty region.
+    /// A record that nothing was read into: a merge of nothing on an empty region, in linear light.
     pub const BLANK: Step = Step {
         kind: Kind::Merge,
         region: Region { x: 0, y: 0, width: 0, height: 0 },
         inputs: Vec::new(),
         colour: [0; 3],
         numbers: Vec::new(),
+        space: Space::Linear,
     };
 }
 
@@ -127,4 +130,5 @@ pub struct Checked {
     pub inputs: Vec<Input>,
     pub colour: [u8; 3],
     pub units: Vec<i64>,
+    pub space: Space,
 }

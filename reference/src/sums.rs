@@ -15,21 +15,26 @@ use crate::step::Region;
 pub const SEED: u32 = 2026;
 
 /// A drop shadow: the alpha blurred and moved, tinted, under the picture.
-pub const SHADOW: &str = "blur\t0\t0\t1024\t1024\talpha\t6\t4.5
-offset\t0\t0\t1024\t1024\t0\t12\t8
-flood\t0\t0\t1024\t1024\t16\t16\t64\t0.6
-in\t0\t0\t1024\t1024\t2\t1
-merge\t0\t0\t1024\t1024\t3\tsrc
+pub const SHADOW: &str = "blur\t0\t0\t1024\t1024\talpha\t6\t4.5\tsrgb
+offset\t0\t0\t1024\t1024\t0\t12\t8\tsrgb
+flood\t0\t0\t1024\t1024\t16\t16\t64\t0.6\tsrgb
+in\t0\t0\t1024\t1024\t2\t1\tsrgb
+merge\t0\t0\t1024\t1024\t3\tsrc\tsrgb
 ";
 
 /// A glow: the alpha widened and blurred, tinted and made stronger, under the picture.
-pub const GLOW: &str = "dilate\t0\t0\t1024\t1024\talpha\t3\t2
-blur\t8\t8\t1008\t1008\t0\t9.3\t9.3
-flood\t0\t0\t1024\t1024\t255\t220\t64\t0.9
-in\t0\t0\t1024\t1024\t2\t1
-arith\t0\t0\t1024\t1024\t3\tsrc\t0\t0.75\t0.25\t0.01
-over\t0\t0\t1024\t1024\tsrc\t4
+pub const GLOW: &str = "dilate\t0\t0\t1024\t1024\talpha\t3\t2\tsrgb
+blur\t8\t8\t1008\t1008\t0\t9.3\t9.3\tsrgb
+flood\t0\t0\t1024\t1024\t255\t220\t64\t0.9\tsrgb
+in\t0\t0\t1024\t1024\t2\t1\tsrgb
+arith\t0\t0\t1024\t1024\t3\tsrc\t0\t0.75\t0.25\t0.01\tsrgb
+over\t0\t0\t1024\t1024\tsrc\t4\tsrgb
 ";
+
+/// The same lines without their spaces: linear is the default.
+pub fn in_linear_light(lines: &str) -> String {
+    lines.replace("\tsrgb\n", "\n")
+}
 
 /// The sheets' canvas.
 pub const SIDE: usize = 1024;
@@ -106,4 +111,6 @@ pub fn all(renderer: &dyn Renderer) -> String {
         + &line("source edited", &edited(&source))
         + &sheet(renderer, "shadow", SHADOW)
         + &sheet(renderer, "glow", GLOW)
+        + &sheet(renderer, "linear shadow", &in_linear_light(SHADOW))
+        + &sheet(renderer, "linear glow", &in_linear_light(GLOW))
 }

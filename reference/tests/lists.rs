@@ -3,7 +3,7 @@
 mod common;
 
 use common::*;
-use reference::cases::{picture, sheet, texts::written};
+use reference::cases::{picture, sheet, style, texts::written};
 use reference::check::Answer;
 use reference::fault::{Fault, OF_LISTS};
 use reference::print;
@@ -12,7 +12,7 @@ use reference::render::{redraw, render, Sheet};
 use reference::step::Step;
 use reference::text::{read, read_steps, steps_of, Limits, Reading, EARLIER, LIMITS, LONGEST_TEXT};
 
-const LINE: &str = "lumalpha\t0\t0\t1\t1\tsrc\n";
+const LINE: &str = "lumalpha\t0\t0\t1\t1\tsrc\tsrgb\n";
 
 fn one_step() -> Step {
     steps("lumalpha 0 0 1 1 src\n").remove(0)
@@ -166,7 +166,7 @@ fn saved_sheets_stay_readable() {
     let mut random = Random::new(10);
     for count in 0..=16 {
         let (steps, source) = (sheet(&mut random, count, 5, 4, false), picture(&mut random, 20));
-        let text = written(5, 4, &steps, &source, 0);
+        let text = written(5, 4, &steps, &source, style(&mut random));
         let (mut old, mut new) = (list(64), list(64));
         let said = read(&text, &mut old, EARLIER, Fault::None);
         assert_eq!(said, Ok(Reading { width: 5, height: 4, count, source }));

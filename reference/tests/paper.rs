@@ -1,8 +1,9 @@
-//! The worked examples of RULES 11: P1 to P12, the cases to run; and the example of 9.9.
+//! The worked examples of RULES 11: P1 to P12, the cases to run; and the example of 9.9. All are in sRGB.
 
 mod common;
 
 use common::*;
+use reference::cases::texts::EXAMPLE;
 use reference::check::Answer;
 use reference::fault::Fault;
 use reference::number::Number;
@@ -125,8 +126,7 @@ fn cases_to_run() {
 
 #[test]
 fn example() {
-    let text = "canvas\t2\t1\nflood\t0\t0\t1\t1\t255\t0\t0\t0.5\nover\t0\t0\t2\t1\t0\tsrc\nrow\t0000ffff\t00000080\n";
-    assert_eq!(print::sheet(text.as_bytes(), RIGHT), b"ok\nrow\t80007fff\t00000080\n");
+    assert_eq!(print::sheet(EXAMPLE.as_bytes(), RIGHT), b"ok\nrow\t80007fff\t00000080\n");
 }
 
 #[test]

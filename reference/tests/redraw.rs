@@ -3,7 +3,7 @@
 mod common;
 
 use common::*;
-use reference::cases::{case, picture, region as any_region, sheet};
+use reference::cases::{case, picture, region as any_region, sheet, style};
 use reference::check::{check, Answer, Call};
 use reference::compare::{redraw_is_render, Reference};
 use reference::damage::rectangles;
@@ -20,7 +20,7 @@ fn redraw_equals_render() {
         let (width, height) = (case.width.clamp(1, 16), case.height.clamp(1, 16));
         let steps = sheet(&mut random, 4, width, height, false);
         (case.width, case.height) = (width, height);
-        case.steps = print::steps(&steps, 0).into_bytes();
+        case.steps = print::steps(&steps, style(&mut random)).into_bytes();
         case.source = picture(&mut random, width * height);
         case.workspace = vec![0; 16 * width * height];
         case.scratch = vec![1; 8 * width * height];

@@ -2,7 +2,7 @@
 
 mod common;
 
-use reference::cases::{sheet, texts};
+use reference::cases::{sheet, style, texts};
 use reference::fault::Fault;
 use reference::print;
 use reference::random::Random;
@@ -137,7 +137,7 @@ fn whole_fields_inputs_and_words() {
     }
     assert_eq!(line("lumalpha 0 0 1 1 9999"), "refused\t7\t0\n");
     assert_eq!(line("lumalpha 9999 0 1 1 src"), "refused\t13\t0\n");
-    assert_eq!(line("flood 0 0 1 1 255 0 9 1"), "ok\nrow\tff0009ff\n");
+    assert_eq!(line("flood 0 0 1 1 255 0 9 1 srgb"), "ok\nrow\tff0009ff\n");
 }
 
 #[test]
@@ -164,13 +164,13 @@ fn longest_text() {
     assert_eq!(print::sheet(&text, Fault::None), b"refused\t15\t0\n");
 }
 
-/// No text of the form comes near the limit: the longest has 64 steps of 273 bytes and 16 rows of 148.
+/// No text of the form comes near the limit: the longest has 64 steps of 280 bytes and 16 rows of 148.
 #[test]
 fn longest_text_of_the_form() {
-    let step = format!("matrix 9999 9999 9999 9999 alpha{}\n", " -99999.9999".repeat(20));
+    let step = format!("matrix 9999 9999 9999 9999 alpha{} linear\n", " -99999.9999".repeat(20));
     let row = format!("row{}\n", " 00000000".repeat(16));
     let text = format!("canvas 16 16\n{}{}", step.repeat(64), row.repeat(16));
-    assert_eq!((step.len(), row.len(), text.len()), (273, 148, 19_853));
+    assert_eq!((step.len(), row.len(), text.len()), (280, 148, 20_301));
     refused(&text, 10, 0);
 }
 
@@ -179,7 +179,7 @@ fn what_is_written_is_read() {
     let mut random = Random::new(8);
     for n in 0..1_000 {
         let steps: Vec<_> = sheet(&mut random, 1 + n % 64, 7, 5, false);
-        let text = print::steps(&steps, n % 5);
+        let text = print::steps(&steps, style(&mut random));
         assert_eq!(steps_of(text.as_bytes(), Fault::None), Ok(steps));
     }
 }

@@ -8,12 +8,22 @@ pub struct Sheet {
     pub redrawn: bool,
 }
 
-/// Each step is its kind, `@` for the whole canvas, and inputs and numbers, with spaces for tabs.
+/// Each step is its kind, `@` for the whole canvas, and inputs and numbers, with spaces for tabs. All steps work in sRGB.
 fn sheet(side: usize, name: &str, redrawn: bool, steps: &[&str]) -> Sheet {
     let whole = format!("0\t0\t{side}\t{side}");
-    let line = |step: &&str| step.replace('@', &whole).replace(' ', "\t") + "\n";
+    let line = |step: &&str| step.replace('@', &whole).replace(' ', "\t") + SRGB;
     Sheet { name: name.into(), steps: steps.iter().map(line).collect(), redrawn }
 }
+
+const SRGB: &str = "\tsrgb\n";
+
+/// The same steps in linear light, which is what a line without a space means.
+fn linear(sheet: &Sheet) -> Sheet {
+    Sheet { name: format!("linear {}", sheet.name), steps: sheet.steps.replace(SRGB, "\n"), redrawn: sheet.redrawn }
+}
+
+/// What is also measured in linear light, beside itself in sRGB. They read the source, which is converted.
+const LINEAR: [&str; 6] = ["offset", "blur 1.5", "over", "merge of 4", "shadow sheet", "glow sheet"];
 
 /// A sepia that also thins out: none of its numbers is 0.
 const MATRIX: &str = "matrix @ src 0.393 0.769 0.189 0.01 0.02 0.349 0.686 0.168 0.01 0.01 0.272 0.534 0.131 0.01 -0.02 \
@@ -62,5 +72,7 @@ pub fn all(side: usize) -> Vec<Sheet> {
     sheets.push(sheet(side, "shadow sheet", true, &SHADOW));
     let glow = glow(side);
     sheets.push(sheet(side, "glow sheet", true, &glow.each_ref().map(String::as_str)));
+    let light: Vec<Sheet> = sheets.iter().filter(|sheet| LINEAR.contains(&sheet.name.as_str())).map(linear).collect();
+    sheets.extend(light);
     sheets
 }

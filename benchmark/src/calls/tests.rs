@@ -27,7 +27,7 @@ fn every_sheet_is_drawn_the_same() {
 fn a_difference_is_found() {
     let source = picture(64, ONE);
     let edited = edited(64, &source);
-    let faults = [Fault::BoxDown, Fault::CompositeHalf, Fault::ScratchLeft, Fault::MergeTopDown];
+    let faults = [Fault::BoxDown, Fault::CompositeHalf, Fault::ScratchLeft, Fault::MergeTopDown, Fault::TableDown, Fault::AbsentIsSrgb];
     for fault in faults {
         let differs = |sheet: &super::sheets::Sheet| same::rendered(&Desk::new(64, &sheet.steps, &source), &Second(fault), &Plain).is_err();
         assert!(all(64).iter().any(differs));
@@ -45,4 +45,6 @@ fn shadow_and_glow_are_the_second_programs() {
     let lines = |name: &str| &sheets.iter().find(|sheet| sheet.name == name).expect("a sheet").steps;
     assert_eq!(lines("shadow sheet"), sums::SHADOW);
     assert_eq!(lines("glow sheet"), sums::GLOW);
+    assert_eq!(*lines("linear shadow sheet"), sums::in_linear_light(sums::SHADOW));
+    assert_eq!(*lines("linear glow sheet"), sums::in_linear_light(sums::GLOW));
 }

@@ -1,5 +1,5 @@
 //! The pictures and work rows that the kernels are measured on.
-use super::{prepare_arithmetic, prepare_luminance, prepare_saturate, prepare_unpremultiply, Coefficients};
+use super::{prepare_arithmetic, prepare_convert, prepare_luminance, prepare_saturate, prepare_unpremultiply, Coefficients};
 use crate::picture::{picture, ONE, OTHER};
 
 pub const HALF: Coefficients = [0, 32768, 32768, 0];
@@ -25,6 +25,8 @@ pub struct Canvas {
     pub weights: Box<[u64; 4096]>,
     pub inverse: Box<[u32; 512]>,
     pub luminance: Box<[u32; 768]>,
+    pub to_linear: Box<[u8; 65536]>,
+    pub to_srgb: Box<[u8; 65536]>,
 }
 
 impl Canvas {
@@ -47,11 +49,15 @@ impl Canvas {
             weights: Box::new([0; 4096]),
             inverse: Box::new([0; 512]),
             luminance: Box::new([0; 768]),
+            to_linear: Box::new([0; 65536]),
+            to_srgb: Box::new([0; 65536]),
         };
         prepare_arithmetic(HALF, &mut canvas.products);
         prepare_saturate(SATURATION, &mut canvas.weights);
         prepare_unpremultiply(&mut canvas.inverse);
         prepare_luminance(&mut canvas.luminance);
+        prepare_convert(true, &mut canvas.to_linear);
+        prepare_convert(false, &mut canvas.to_srgb);
         canvas
     }
 }

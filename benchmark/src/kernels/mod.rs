@@ -76,6 +76,8 @@ extern "C" {
         dst_len: usize,
         n: usize,
     );
+    fn twillgoose_kernel_prepare_convert(linear: bool, table: *mut u8, table_len: usize);
+    fn twillgoose_kernel_convert_row(linear: bool, row: *mut u8, row_len: usize, count: usize, table: *const u8, table_len: usize);
     fn twillgoose_kernel_blur_lines(
         buf: *mut u8,
         buf_len: usize,
@@ -180,6 +182,16 @@ pub fn luminance_row(table: &[u32; 768], inverse: &[u32; 512], src: &[u8], dst: 
     assert!(m.is_multiple_of(4) && src.len() == m);
     let (t, i, d) = (table.as_ptr(), inverse.as_ptr(), dst.as_mut_ptr());
     unsafe { twillgoose_kernel_luminance_row(t, 768, i, 512, src.as_ptr(), m, d, m, m / 4) }
+}
+
+/// The table of a conversion, into linear light or into sRGB.
+pub fn prepare_convert(linear: bool, table: &mut [u8; 65536]) {
+    unsafe { twillgoose_kernel_prepare_convert(linear, table.as_mut_ptr(), table.len()) }
+}
+
+/// In place, by the table of that conversion.
+pub fn convert_row(linear: bool, row: &mut [u8], table: &[u8; 65536]) {
+    unsafe { twillgoose_kernel_convert_row(linear, row.as_mut_ptr(), row.len(), row.len() / 4, table.as_ptr(), table.len()) }
 }
 
 /// From the count lines of n bytes at the start of buf to the count lines after them.

@@ -1,6 +1,7 @@
 //! What is measured: each kernel over a whole picture, as a step would call it.
 use super::canvas::{Canvas, HALF, SATURATION};
 use crate::kernels;
+use crate::plain::space::{Conversion, Space};
 use std::hint::black_box;
 
 pub struct Step {
@@ -61,6 +62,21 @@ fn luminance(c: &mut Canvas) {
     }
 }
 
+/// As a step reads an input of the other space: the row is copied, then converted in place.
+fn convert(c: &mut Canvas, linear: bool) {
+    let table = if linear { &c.to_linear } else { &c.to_srgb };
+    for (src, dst) in c.a.chunks_exact(4 * c.side).zip(c.out.chunks_exact_mut(4 * c.side)) {
+        kernels::copy(src, dst);
+        kernels::convert_row(linear, dst, table);
+    }
+}
+
+/// The same by the plain version.
+fn convert_plainly(c: &mut Canvas, to: Space) {
+    let conversion = Conversion::new(to);
+    rows(c, |src, dst| conversion.row(src, dst));
+}
+
 /// Three passes along rows, eight rows at a time, then three down. The result is the second picture of `pair`.
 fn blur(c: &mut Canvas, d: usize) {
     let (side, row) = (c.side, 4 * c.side);
@@ -114,6 +130,11 @@ pub fn all() -> Vec<Step> {
     steps.push(step("arithmetic", 14.0, arithmetic));
     steps.push(step("matrix (saturate)", 16.0, saturate));
     steps.push(step("luminance to alpha", 7.0, luminance));
+    steps.push(step("conversion to linear", None, |c| convert(c, true)));
+    steps.push(step("conversion to linear, plain version", None, |c| convert_plainly(c, Space::Linear)));
+    steps.push(step("conversion to sRGB", None, |c| convert(c, false)));
+    steps.push(step("conversion to sRGB, plain version", None, |c| convert_plainly(c, Space::Srgb)));
+    steps.push(step("table of a conversion", None, |c| kernels::prepare_convert(true, &mut c.to_linear)));
     for d in [3, 10, 60] {
         steps.push(step(format!("blur, d = {d}"), 16.0, move |c| blur(c, d)));
     }

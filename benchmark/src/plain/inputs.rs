@@ -1,5 +1,6 @@
-//! Rows of what stands at a step's inputs.
-use super::step::Input;
+//! Rows of what stands at a step's inputs, in the step's space.
+use super::space::{Conversion, Space};
+use super::step::{Input, Step};
 use std::ops::Range;
 
 pub struct Inputs<'a> {
@@ -8,10 +9,25 @@ pub struct Inputs<'a> {
     pub source: &'a [u8],
     /// The layers before the step's own.
     pub layers: &'a [u8],
+    /// All steps: layer n is in the space of step n.
+    pub steps: &'a [Step],
+    pub space: Space,
+    /// Into that space, where an input is in the other one.
+    pub conversion: Option<Conversion>,
+}
+
+/// Whether a step in the space reads an input converted. The source's alpha is the same in both.
+pub fn is_converted(input: Input, steps: &[Step], space: Space) -> bool {
+    match input {
+        Input::Source => space != Space::Srgb,
+        Input::Alpha => false,
+        Input::Layer(n) => space != steps[n].space,
+    }
 }
 
 impl Inputs<'_> {
-    /// Some columns of a row. They are read where they lie, but for the source's alpha, which is made in `room`.
+    /// Some columns of a row. They are read where they lie, but for the source's alpha and for what is converted, which are
+    /// made in `room`.
     pub fn row<'b>(&'b self, input: Input, y: usize, columns: Range<usize>, room: &'b mut Vec<u8>) -> &'b [u8] {
         let at = 4 * (y * self.width + columns.start);
         let picture = match input {
@@ -19,10 +35,15 @@ impl Inputs<'_> {
             Input::Layer(n) => &self.layers[4 * self.width * self.height * n..],
         };
         let row = &picture[at..][..4 * columns.len()];
-        if !matches!(input, Input::Alpha) {
+        let conversion = self.conversion.as_ref().filter(|_| is_converted(input, self.steps, self.space));
+        if !matches!(input, Input::Alpha) && conversion.is_none() {
             return row;
         }
         room.resize(row.len(), 0);
+        if let Some(conversion) = conversion {
+            conversion.row(row, room);
+            return room;
+        }
         for (dst, src) in room.as_chunks_mut().0.iter_mut().zip(row.as_chunks().0) {
             *dst = (u32::from_le_bytes(*src) & 0xff00_0000).to_le_bytes();
         }

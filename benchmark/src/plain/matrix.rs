@@ -13,7 +13,7 @@ impl Straight {
 
     /// R, G, B unpremultiplied, and alpha.
     #[inline(always)]
-    fn of(&self, p: &[u8]) -> [usize; 4] {
+    pub fn of(&self, p: &[u8]) -> [usize; 4] {
         let (factor, more) = self.0[p[3] as usize];
         let straight = |c: u8| ((c as u32 * factor + more) >> 16) as u8 as usize;
         [straight(p[0]), straight(p[1]), straight(p[2]), p[3] as usize]
@@ -73,7 +73,7 @@ fn tables<T: Copy + Default>(product: impl Fn(usize, usize, usize) -> T) -> Box<
 
 /// Each pixel by `work`, then premultiplied. Alpha is multiplied by 255, which keeps it.
 #[inline(always)]
-fn transform(src: &[u8], dst: &mut [u8], work: impl Fn(&[u8]) -> [u8; 4]) {
+pub fn transform(src: &[u8], dst: &mut [u8], work: impl Fn(&[u8]) -> [u8; 4]) {
     let mut f = [0; BYTES];
     for (dst, src) in dst.chunks_mut(BYTES).zip(src.chunks(BYTES)) {
         for (out, pixel) in dst.chunks_exact_mut(4).zip(src.chunks_exact(4)) {

@@ -17,14 +17,16 @@ mod read;
 mod rect;
 mod scan;
 mod short;
+pub mod space;
 mod step;
 #[cfg(test)]
 pub mod tests;
 mod tile;
 
 use crate::calls::{Answer, Call, Region, Renderer};
-use inputs::Inputs;
+use inputs::{is_converted, Inputs};
 use rect::Rect;
+use space::Conversion;
 use step::Step;
 
 pub struct Plain;
@@ -62,10 +64,14 @@ fn checked(call: &Call, named: Option<Region>) -> Result<Vec<Step>, Answer> {
 }
 
 /// Layer n, and what stands at the inputs of its step.
-fn parted<'a>(call: &'a mut Call, n: usize) -> (Inputs<'a>, &'a mut [u8], &'a mut [u8]) {
+fn parted<'a>(call: &'a mut Call, steps: &'a [Step], n: usize) -> (Inputs<'a>, &'a mut [u8], &'a mut [u8]) {
     let size = call.source.len();
     let (layers, rest) = call.workspace.split_at_mut(size * n);
-    (Inputs { width: call.width, height: call.height, source: call.source, layers }, &mut rest[..size], call.scratch)
+    let Step { space, inputs, .. } = &steps[n];
+    let converts = inputs.iter().any(|input| is_converted(*input, steps, *space));
+    let conversion = converts.then(|| Conversion::new(*space));
+    let (width, height, source) = (call.width, call.height, call.source);
+    (Inputs { width, height, source, layers, steps, space: *space, conversion }, &mut rest[..size], call.scratch)
 }
 
 /// Clears what a region leaves of its layer.
@@ -87,7 +93,7 @@ impl Renderer for Plain {
             Err(answer) => return answer,
         };
         for (n, step) in steps.iter().enumerate() {
-            let (inputs, out, scratch) = parted(&mut call, n);
+            let (inputs, out, scratch) = parted(&mut call, &steps, n);
             clear_outside(out, inputs.width, step.region);
             draw::draw(step, step.region, &inputs, out, scratch);
         }
@@ -102,7 +108,7 @@ impl Renderer for Plain {
         };
         let rects = damage::rectangles(&steps, Rect::new(named.x, named.y, named.width, named.height));
         for (n, (step, rect)) in steps.iter().zip(&rects).enumerate() {
-            let (inputs, out, scratch) = parted(&mut call, n);
+            let (inputs, out, scratch) = parted(&mut call, &steps, n);
             draw::draw(step, *rect, &inputs, out, scratch);
         }
         call.scratch.fill(0);

@@ -1,5 +1,6 @@
 //! Steps from lines of text. The lines are trusted: the benchmark's sheets are constants, and a malformed one stops it.
 use super::rect::Rect;
+use super::space::{Conversion, Space};
 use super::step::{Input, Operator, Step, Work};
 
 pub fn steps(lines: &[u8]) -> Vec<Step> {
@@ -11,6 +12,7 @@ fn step(line: &str) -> Step {
     let kind = fields.next().expect("a kind");
     let [x, y, width, height] = [(); 4].map(|()| fields.next().expect("a region").parse().expect("a whole number"));
     let mut rest: Vec<&str> = fields.collect();
+    let space = space(&mut rest);
     let inputs = match kind {
         "flood" => 0,
         "over" | "in" | "out" | "atop" | "xor" | "arith" => 2,
@@ -18,7 +20,31 @@ fn step(line: &str) -> Step {
         _ => 1,
     };
     let numbers = rest.split_off(inputs);
-    Step { work: work(kind, &numbers), region: Rect::new(x, y, width, height), inputs: rest.into_iter().map(input).collect() }
+    let (region, inputs) = (Rect::new(x, y, width, height), rest.into_iter().map(input).collect());
+    Step { work: in_space(work(kind, &numbers), space), region, inputs, space }
+}
+
+/// Takes the last field where it is a space. The words are no inputs and no numbers.
+fn space(fields: &mut Vec<&str>) -> Space {
+    let named = match fields.last() {
+        Some(&"srgb") => Space::Srgb,
+        Some(&"linear") => Space::Linear,
+        _ => return Space::Linear,
+    };
+    fields.pop();
+    named
+}
+
+/// A flood is made in sRGB.
+fn in_space(work: Work, space: Space) -> Work {
+    match (work, space) {
+        (Work::Flood(pixel), Space::Linear) => {
+            let mut converted = [0; 4];
+            Conversion::new(space).row(&pixel, &mut converted);
+            Work::Flood(converted)
+        }
+        _ => work,
+    }
 }
 
 fn input(field: &str) -> Input {

@@ -1,5 +1,6 @@
 //! A step as it is drawn: its numbers are whole pixels, units of 1/65,536 or bytes.
 use super::rect::Rect;
+use super::space::Space;
 
 #[derive(Clone, Copy)]
 pub enum Input {
@@ -36,4 +37,5 @@ pub struct Step {
     pub work: Work,
     pub region: Rect,
     pub inputs: Vec<Input>,
+    pub space: Space,
 }

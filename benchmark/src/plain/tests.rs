@@ -1,7 +1,8 @@
 //! The plain version against the second program, byte for byte.
+use super::space::{Conversion, Space};
 use super::Plain;
 use crate::calls::{Answer, Call, Region, Renderer};
-use reference::cases::{damage_picture, picture, region, sheet};
+use reference::cases::{damage_picture, picture, region, sheet, style};
 use reference::fault::Fault;
 use reference::random::Random;
 use reference::render::{redraw, render, Sheet};
@@ -85,7 +86,7 @@ fn random_sheets() {
     let side = |random: &mut Random| if random.once_in(12) { 140 } else { 1 + random.below(40) };
     for _ in 0..3000 {
         let (width, height, count) = (side(&mut random), side(&mut random), 1 + random.below(5));
-        let steps = print::steps(&sheet(&mut random, count, width, height, false), random.below(5));
+        let steps = print::steps(&sheet(&mut random, count, width, height, false), style(&mut random));
         same(&case(&mut random, width, height, steps));
     }
 }
@@ -100,8 +101,24 @@ fn every_window() {
             for (across, down) in [(n, 0), (0, n), (n, n), (random.below(65), n)] {
                 let (width, height) = (1 + random.below(n + 20), 1 + random.below(n + 20));
                 let step::Region { x, y, width: w, height: h } = region(&mut random, width, height);
-                let steps = format!("{kind}\t{x}\t{y}\t{w}\t{h}\tsrc\t{}\t{}\n", number(across), number(down));
+                let space = random.pick(&["", "\tlinear", "\tsrgb"]);
+                let steps = format!("{kind}\t{x}\t{y}\t{w}\t{h}\tsrc\t{}\t{}{space}\n", number(across), number(down));
                 same(&case(&mut random, width, height, steps));
+            }
+        }
+    }
+}
+
+/// Every colour at every alpha.
+#[test]
+fn every_conversion() {
+    for (to, theirs) in [(Space::Srgb, reference::space::Space::Srgb), (Space::Linear, reference::space::Space::Linear)] {
+        let conversion = Conversion::new(to);
+        for alpha in 0..=255 {
+            for colour in 0..=alpha {
+                let (pixel, mut converted) = ([colour, alpha, 0, alpha], [0; 4]);
+                conversion.row(&pixel, &mut converted);
+                assert_eq!(converted, reference::space::convert(theirs, pixel, Fault::None));
             }
         }
     }

@@ -7,9 +7,9 @@ mod pam;
 
 use std::process::ExitCode;
 
-/// The shadow's steps: the picture's alpha blurred and moved, a dark blue inside it, the picture on top.
+/// The shadow's steps, all in sRGB: the picture's alpha blurred and moved, a dark blue inside it, the picture on top.
 fn steps(width: usize, height: usize, dx: &str, dy: &str, deviation: &str) -> String {
-    let line = |kind: &str, rest: &[&str]| format!("{kind}\t0\t0\t{width}\t{height}\t{}\n", rest.join("\t"));
+    let line = |kind: &str, rest: &[&str]| format!("{kind}\t0\t0\t{width}\t{height}\t{}\tsrgb\n", rest.join("\t"));
     [
         line("blur", &["alpha", deviation, deviation]),
         line("offset", &["0", dx, dy]),

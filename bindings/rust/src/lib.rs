@@ -6,11 +6,12 @@
 //! from 0; step n draws layer n, and the workspace holds the layers one after another ([`workspace_len`]).
 //!
 //! Steps are lines of text, each closed by a line feed, their fields parted by one tab: kind, x, y, width and height of
-//! the step's region, inputs (`src`, `alpha`, or the number of an earlier step), numbers.
+//! the step's region, inputs (`src`, `alpha`, or the number of an earlier step), numbers, and optionally the space that the
+//! step works in, `srgb` or `linear`. Without it a step works in linear light.
 //!
 //! ```
 //! // A half transparent red on the left pixel, the source under it.
-//! let steps = "flood\t0\t0\t1\t1\t255\t0\t0\t0.5\nover\t0\t0\t2\t1\t0\tsrc\n";
+//! let steps = "flood\t0\t0\t1\t1\t255\t0\t0\t0.5\tsrgb\nover\t0\t0\t2\t1\t0\tsrc\tsrgb\n";
 //! let (width, height) = (2, 1);
 //! let source = [0x00, 0x00, 0xff, 0xff, 0x00, 0x00, 0x00, 0x80];
 //! let mut workspace = vec![0; twillgoose::workspace_len(width, height, 2)];
@@ -34,12 +35,25 @@
 //! | `arith` | input, input, k1 to k4 | −256 to 256 |
 //! | `merge` | 1 to 4 inputs, bottom first | |
 //!
+//! The source is sRGB. Each layer is kept in its step's space, and its bytes in the workspace are in it: a step of the
+//! other space reads them converted, and so must whoever shows them. With `srgb` on every step nothing is converted;
+//! [`sheet`] prints sRGB in any case.
+//!
+//! ```
+//! // 128, 64 and 32 are 55, 13 and 4 in linear light.
+//! let (mut workspace, mut scratch) = ([0; 4], [0; 8]);
+//! twillgoose::render(1, 1, "offset\t0\t0\t1\t1\tsrc\t0\t0\n", &[128, 64, 32, 255], &mut workspace, &mut scratch)?;
+//! assert_eq!(workspace, [55, 13, 4, 255]);
+//! # Ok::<(), twillgoose::Refusal>(())
+//! ```
+//!
 //! Whole fields (the region, a step's number, a flood's bytes) have 1 to 4 digits, no sign and no leading zeros. A number
 //! is an optional minus, 1 to 5 digits without leading zeros, optionally a point and 1 to 4 digits; or `x` and the eight
 //! lower-case hexadecimal digits of a single. It is checked as it stands, then rounded to the nearest 1/65,536. A single
 //! halfway between two goes to the even one; no decimal lies there. A [`Refusal`] says what is wrong with a call, and
-//! changes no byte that was lent. A sixty-fifth step line and a merge of 0 or 5 inputs are not of the form: they are
-//! refused as lines. Refusal 21, which readers of lists of step records give, cannot be met here: steps are lines.
+//! changes no byte that was lent. A sixty-fifth step line, a merge of 0 or 5 inputs and another word for the space are
+//! not of the form: they are refused as lines. Refusal 21, which readers of lists of step records give, cannot be met
+//! here: steps are lines.
 
 #![warn(missing_docs)]
 
@@ -78,7 +92,8 @@ pub fn scratch_len(width: usize, height: usize) -> usize {
 
 /// Draws every layer of the steps on the picture in `source`.
 ///
-/// Done, `workspace` holds the layers, each a valid picture, and `scratch` is all zero. Refused, both are as they were.
+/// Done, `workspace` holds the layers, each a valid picture in its step's space, and `scratch` is all zero. Refused, both
+/// are as they were.
 ///
 /// # Errors
 ///
@@ -104,7 +119,7 @@ pub fn render(
 ///
 /// ```
 /// use twillgoose::{redraw, render, Rect};
-/// let steps = "dilate\t0\t0\t3\t1\tsrc\t1\t0\n";
+/// let steps = "dilate\t0\t0\t3\t1\tsrc\t1\t0\tsrgb\n";
 /// let (mut source, mut workspace, mut scratch) = ([0; 12], [0; 12], [0; 24]);
 /// render(3, 1, steps, &source, &mut workspace, &mut scratch)?;
 /// source[7] = 255; // the middle pixel's alpha
@@ -130,8 +145,8 @@ pub fn redraw(
     refusal::refused(number, place).map_or(Ok(count), Err)
 }
 
-/// The bytes of layer `n` in a workspace of `steps` layers; nothing where the sizes are not valid or there is no such
-/// layer.
+/// The bytes of layer `n`, in the space of step `n`, in a workspace of `steps` layers; nothing where the sizes are not
+/// valid or there is no such layer.
 pub fn layer(width: usize, height: usize, steps: usize, n: usize, workspace: &[u8]) -> Option<&[u8]> {
     let (offset, length) = raw::layer(width, height, steps, n, workspace.len());
     workspace.get(offset..)?.get(..length).filter(|layer| !layer.is_empty())
@@ -139,7 +154,7 @@ pub fn layer(width: usize, height: usize, steps: usize, n: usize, workspace: &[u
 
 /// The rules that this page describes. The number rises whenever an answer or a pixel changes: compare pictures only if
 /// both were drawn under the same number.
-pub const RULES: u64 = 4;
+pub const RULES: u64 = 5;
 
 /// The number of the rules that the library was built with, [`RULES`] where page and library belong together.
 pub fn rules() -> u64 {
@@ -150,8 +165,8 @@ pub fn rules() -> u64 {
 pub const LONGEST_ANSWER: usize = 3 + 16 * (4 + 16 * 9);
 
 /// Answers a whole sheet as text (a `canvas` line, step lines, rows of pixels), as the program `sheet` does: `ok` and the
-/// last layer as `row` lines, or one line of `refused`, number and place. A text over 65,536 bytes is refused with 15 at
-/// place 0.
+/// last layer as `row` lines, in sRGB whatever its step's space, or one line of `refused`, number and place. A text over
+/// 65,536 bytes is refused with 15 at place 0.
 ///
 /// ```
 /// let text = b"canvas\t1\t1\nlumalpha\t0\t0\t1\t1\tsrc\nrow\tffffffff\n";

@@ -2,9 +2,9 @@
 
 use twillgoose::{layer, redraw, render, scratch_len, sheet, workspace_len, Rect, Refusal};
 
-/// Steps with spaces for tabs.
+/// Steps with spaces for tabs, each with `srgb`.
 fn lines(steps: &str) -> String {
-    steps.replace(' ', "\t")
+    steps.lines().map(|line| line.replace(' ', "\t") + "\tsrgb\n").collect()
 }
 
 fn count(steps: &str) -> usize {
@@ -112,13 +112,33 @@ fn layers_that_are_not_there() {
 
 #[test]
 fn sheets_as_text() {
-    let text = "canvas\t2\t1\nflood\t0\t0\t1\t1\t255\t0\t0\t0.5\nover\t0\t0\t2\t1\t0\tsrc\nrow\t0000ffff\t00000080\n";
+    let text =
+        format!("canvas\t2\t1\n{}row\t0000ffff\t00000080\n", lines("flood 0 0 1 1 255 0 0 0.5\nover 0 0 2 1 0 src\n"));
     assert_eq!(sheet(text.as_bytes()), b"ok\nrow\t80007fff\t00000080\n");
     assert_eq!(sheet(b""), b"refused\t15\t1\n");
     assert_eq!(sheet(&[0; 65_537]), b"refused\t15\t0\n");
     let row = format!("row{}\n", "\t00000000".repeat(16)).repeat(16);
     let largest = format!("canvas\t16\t16\nlumalpha\t0\t0\t16\t16\tsrc\n{row}");
     assert_eq!(sheet(largest.as_bytes()).len(), twillgoose::LONGEST_ANSWER);
+}
+
+/// 128, 64 and 32 are 55, 13 and 4 in linear light, and these are 128, 64 and 34 in sRGB. A layer has its step's space;
+/// only `sheet` prints sRGB.
+#[test]
+fn linear_light() {
+    let source = [0x80, 0x40, 0x20, 0xff];
+    let (mut layers, mut scratch) = ([0; 8], [0; 8]);
+    let steps = "offset\t0\t0\t1\t1\tsrc\t0\t0\noffset\t0\t0\t1\t1\t0\t0\t0\tsrgb\n";
+    assert_eq!(render(1, 1, steps, &source, &mut layers, &mut scratch), Ok(()));
+    assert_eq!(layers, [0x37, 0x0d, 0x04, 0xff, 0x80, 0x40, 0x22, 0xff]);
+    for (space, printed) in [("", "804022ff"), ("\tlinear", "804022ff"), ("\tsrgb", "804020ff")] {
+        let text = format!("canvas\t1\t1\noffset\t0\t0\t1\t1\tsrc\t0\t0{space}\nrow\t804020ff\n");
+        assert_eq!(sheet(text.as_bytes()), format!("ok\nrow\t{printed}\n").into_bytes());
+    }
+    for wrong in ["sRGB", "linearRGB", "", "srgb\tsrgb"] {
+        let steps = format!("lumalpha\t0\t0\t1\t1\tsrc\t{wrong}\n");
+        assert_eq!(render(1, 1, steps, &[0; 4], &mut layers[..4], &mut scratch), Err(Refusal::Line(1)));
+    }
 }
 
 /// 64 steps on a row of four pixels: the alpha, then moved right and left in turn.

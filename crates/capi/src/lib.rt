@@ -20,7 +20,7 @@ ghost use Rattle.capi.specs.Lines.{stepsIn, countIn, renderAnswer, redra
 ghost use Rattle.capi.specs.Rules.{rulesNumber};
 
 // The rules of this build: RULES.md names them at its head.
-pub const RULES: u64 = 4;
+pub const RULES: u64 = 5;
 
 // Number and place of an answer, and how many pixels a redraw worked.
 pub struct Redrawing {

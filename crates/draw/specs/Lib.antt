@@ -1,3 +1,4 @@
--- A layer cleared around a rectangle.
+-- A step drawn inside a rectangle; a layer cleared around one.
+pub mod Drawing
 pub mod Cleared
 pub mod Covers

@@ -11,7 +11,8 @@ ghost use Rattle.filter.specs.Checks.{allowed?};
 ghost use Rattle.filter.specs.Accepted.{Within};
 ghost use Rattle.filter.specs.Bytes.{size};
 ghost use Rattle.filter.specs.Limits.{longestSide, mostPixels};
-ghost use Rattle.stage.specs.Buffers.{stands, Sized};
+ghost use Rattle.stage.specs.Buffers.{Sized};
+ghost use Rattle.stage.specs.Shown.{shown, Tabled};
 ghost use Rattle.stage.specs.Drawn.{Drawn};
 ghost use Rattle.stage.specs.Strip.{Strip};
 ghost use Rattle.draw_window.specs.Passes.{acrossOf, Worked};
@@ -21,6 +22,7 @@ use filter::Input;
 use filter::Rect;
 use lanes::gather_rows;
 use lanes::spread_rows;
+use stage::Lens;
 use window::lesser;
 use window::spread_of;
 
@@ -57,13 +59,15 @@ fn blur_across(
     w: usize,
     h: usize,
     n: usize,
+    lens: Lens,
+    pairs: &[u8],
     input: Input,
     strip: Rect,
     d: usize,
 )
-    requires { ⌜ Sized w h n (now source) (now workspace) × (allowed? n input ≡ true) × (d ≤ 60) ⌝ }
+    requires { ⌜ Sized w h n (now source) (now workspace) × (allowed? n input ≡ true) × (d ≤ 60) × Tabled lens (now pairs) ⌝ }
     requires { ⌜ (strip .left < strip .right) × (strip .right ≤ w) × (strip .top ≤ strip .bottom) × (strip .bottom ≤ h) × (4 * ((strip .bottom - strip .top) * (strip .right - strip .left)) ≤ length (now scratch)) ⌝ }
-    ensures { λ _. ⌜ Strip (acrossOf (blurs d) w (stands w h (now (source .entry)) (now (workspace .entry)) input)) 0 (strip .left) (strip .right) (strip .top) (strip .bottom) (now (scratch .exit)) ⌝ }
+    ensures { λ _. ⌜ Strip (acrossOf (blurs d) w (shown lens w h (now (source .entry)) (now (workspace .entry)) input)) 0 (strip .left) (strip .right) (strip .top) (strip .bottom) (now (scratch .exit)) ⌝ }
 {
     let left = strip.left;
     let right = strip.right;
@@ -79,7 +83,20 @@ fn blur_across(
     let mut y = top;
     while y < bottom {
         let count = lesser(8, bottom - y);
-        spread_rows(workspace, source, w, h, n, input, y, count, span, &mut tile);
+        spread_rows(
+            workspace,
+            source,
+            w,
+            h,
+            n,
+            lens,
+            pairs,
+            input,
+            y,
+            count,
+            span,
+            &mut tile,
+        );
         let o = pass_lines(&mut tile, TILE, 32, places, d, &mut sums);
         let at = (y - top) * width;
         gather_rows(&tile, o + skip, scratch, at, width, count);
@@ -107,14 +124,16 @@ pub fn draw_blur(
     w: usize,
     h: usize,
     n: usize,
+    lens: Lens,
+    pairs: &[u8],
     input: Input,
     dx: usize,
     dy: usize,
     rect: Rect,
 )
-    requires { ⌜ Sized w h n (now source) (now workspace) × (length (now scratch) ≡ 2 * size w h) × (allowed? n input ≡ true) ⌝ }
+    requires { ⌜ Sized w h n (now source) (now workspace) × (length (now scratch) ≡ 2 * size w h) × (allowed? n input ≡ true) × Tabled lens (now pairs) ⌝ }
     requires { ⌜ (dx ≤ 60) × (dy ≤ 60) × Within w h rect ⌝ }
-    ensures { λ _. ⌜ Drawn w h n rect (work w h (Blur input dx dy) (stands w h (now (source .entry)) (now (workspace .entry)))) (now (workspace .entry)) (now (workspace .exit)) ⌝ }
+    ensures { λ _. ⌜ Drawn w h n rect (work w h (Blur input dx dy) (shown lens w h (now (source .entry)) (now (workspace .entry)))) (now (workspace .entry)) (now (workspace .exit)) ⌝ }
     ensures { λ _. ⌜ WorkBuffer (now (scratch .entry)) (now (scratch .exit)) ⌝ }
 {
     if rect.right <= rect.left {
@@ -131,7 +150,19 @@ pub fn draw_blur(
         top: span.from,
         bottom: span.to,
     };
-    blur_across(&workspace[..], source, scratch, w, h, n, input, rows, dx);
+    blur_across(
+        &workspace[..],
+        source,
+        scratch,
+        w,
+        h,
+        n,
+        lens,
+        pairs,
+        input,
+        rows,
+        dx,
+    );
     let at = blur_down(scratch, w * h, rows, dy);
     stage::store_rows(workspace, w, h, n, rect, &scratch[..], at, rows.top);
 }

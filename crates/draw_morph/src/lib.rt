@@ -10,7 +10,8 @@ ghost use Rattle.filter.specs.Checks.{allowed?};
 ghost use Rattle.filter.specs.Accepted.{Within};
 ghost use Rattle.filter.specs.Bytes.{size};
 ghost use Rattle.filter.specs.Limits.{longestSide, longestRow, mostPixels};
-ghost use Rattle.stage.specs.Buffers.{stands, Sized};
+ghost use Rattle.stage.specs.Buffers.{Sized};
+ghost use Rattle.stage.specs.Shown.{shown, Tabled};
 ghost use Rattle.stage.specs.Drawn.{Drawn};
 ghost use Rattle.stage.specs.Strip.{Strip};
 ghost use Rattle.draw_window.specs.Passes.{acrossOf, alongRow, Worked};
@@ -20,6 +21,7 @@ use draw_window::reached;
 use filter::Input;
 use filter::Rect;
 use raster_morph::Extreme;
+use stage::Lens;
 
 // What a result looks at along a line: the places from `back` before it to `ahead` behind it.
 pub struct Window {
@@ -66,13 +68,15 @@ fn extreme_across(
     w: usize,
     h: usize,
     n: usize,
+    lens: Lens,
+    pairs: &[u8],
     input: Input,
     strip: Rect,
     k: Window,
 )
-    requires { ⌜ Sized w h n (now source) (now workspace) × (allowed? n input ≡ true) × (k .back ≤ 64) × (k .ahead ≤ 64) ⌝ }
+    requires { ⌜ Sized w h n (now source) (now workspace) × (allowed? n input ≡ true) × (k .back ≤ 64) × (k .ahead ≤ 64) × Tabled lens (now pairs) ⌝ }
     requires { ⌜ (strip .left < strip .right) × (strip .right ≤ w) × (strip .top ≤ strip .bottom) × (strip .bottom ≤ h) × (4 * ((strip .bottom - strip .top) * (strip .right - strip .left)) ≤ length (now scratch)) ⌝ }
-    ensures { λ _. ⌜ Strip (acrossOf (extremes op (k .back) (k .ahead)) w (stands w h (now (source .entry)) (now (workspace .entry)) input)) 0 (strip .left) (strip .right) (strip .top) (strip .bottom) (now (scratch .exit)) ⌝ }
+    ensures { λ _. ⌜ Strip (acrossOf (extremes op (k .back) (k .ahead)) w (shown lens w h (now (source .entry)) (now (workspace .entry)) input)) 0 (strip .left) (strip .right) (strip .top) (strip .bottom) (now (scratch .exit)) ⌝ }
 {
     let left = strip.left;
     let right = strip.right;
@@ -84,7 +88,20 @@ fn extreme_across(
     let to = span.to;
     let mut line = [0u8; SECOND + window::ROW];
     for y in top..bottom {
-        stage::load(workspace, source, w, h, n, input, y, from, to, &mut line);
+        stage::load(
+            workspace,
+            source,
+            w,
+            h,
+            n,
+            lens,
+            pairs,
+            input,
+            y,
+            from,
+            to,
+            &mut line,
+        );
         let at = (y - top) * width;
         extreme_row(op, &mut line, to - from, k, left - from, scratch, at, width);
     }
@@ -111,14 +128,16 @@ pub fn draw_extreme(
     w: usize,
     h: usize,
     n: usize,
+    lens: Lens,
+    pairs: &[u8],
     input: Input,
     rx: usize,
     ry: usize,
     rect: Rect,
 )
-    requires { ⌜ Sized w h n (now source) (now workspace) × (length (now scratch) ≡ 2 * size w h) × (allowed? n input ≡ true) ⌝ }
+    requires { ⌜ Sized w h n (now source) (now workspace) × (length (now scratch) ≡ 2 * size w h) × (allowed? n input ≡ true) × Tabled lens (now pairs) ⌝ }
     requires { ⌜ (rx ≤ 64) × (ry ≤ 64) × Within w h rect ⌝ }
-    ensures { λ _. ⌜ Drawn w h n rect (work w h (morphology op input rx ry) (stands w h (now (source .entry)) (now (workspace .entry)))) (now (workspace .entry)) (now (workspace .exit)) ⌝ }
+    ensures { λ _. ⌜ Drawn w h n rect (work w h (morphology op input rx ry) (shown lens w h (now (source .entry)) (now (workspace .entry)))) (now (workspace .entry)) (now (workspace .exit)) ⌝ }
     ensures { λ _. ⌜ WorkBuffer (now (scratch .entry)) (now (scratch .exit)) ⌝ }
 {
     if rect.right <= rect.left {
@@ -136,7 +155,20 @@ pub fn draw_extreme(
         top: span.from,
         bottom: span.to,
     };
-    extreme_across(op, &workspace[..], source, scratch, w, h, n, input, rows, k);
+    extreme_across(
+        op,
+        &workspace[..],
+        source,
+        scratch,
+        w,
+        h,
+        n,
+        lens,
+        pairs,
+        input,
+        rows,
+        k,
+    );
     let at = extreme_down(op, scratch, w * h, rows, down);
     stage::store_rows(workspace, w, h, n, rect, &scratch[..], at, rows.top);
 }

@@ -11,15 +11,16 @@ use Rattle.filter.specs.Effect.{Env}
 use Rattle.filter.specs.Kinds.{work, reads}
 use Rattle.filter.proofs.Earlier.{earlier-work}
 use Rattle.filter.proofs.Locality.{work-local}
-use Rattle.stage.specs.Buffers.{stands}
+use Rattle.stage.specs.declared.Lens.{Lens}
+use Rattle.stage.specs.Shown.{shown}
 use Rattle.stage.specs.Drawn.{Drawn}
 use Rattle.stage.proofs.Agree.{drawn-agree, valid-agree}
 use Rattle.draw_point.specs.Pointwise.{Pointwise}
 use Rattle.draw_point.specs.Row.{Drawable, Prepared}
 
-module _ (w h n : ℕ) (r : Rect) (new : Picture) (src d d′ : List ℕ) (p : Primitive) (D : Drawn w h n r new d d′) (S : Drawable w h n src d p) where
+module _ (w h n : ℕ) (r : Rect) (new : Picture) (lens : Lens) (src d d′ pairs : List ℕ) (p : Primitive) (D : Drawn w h n r new d d′) (S : Drawable w h n lens src d pairs p) where
   -- it can still be worked, and its work is the same
-  pub drawable-later : Drawable w h n src d′ p
+  pub drawable-later : Drawable w h n lens src d′ pairs p
   drawable-later = record {
     sized = record {
       wide = S .sized .wide;
@@ -28,19 +29,20 @@ module _ (w h n : ℕ) (r : Rect) (new : Picture) (src d d′ : List ℕ) (p : P
       source = S .sized .source;
       workspace = rw (D .long) (S .sized .workspace);
     };
-    valid = valid-agree n _ _ (drawn-agree w h n r new src d d′ D) (S .valid);
+    tabled = S .tabled;
+    valid = valid-agree n _ _ (drawn-agree w h n r new lens src d d′ D) (S .valid);
     earlier = S .earlier;
     bounded = S .bounded;
   }
 
-  pub work-later : work w h p (stands w h src d′) ≡ work w h p (stands w h src d)
+  pub work-later : work w h p (shown lens w h src d′) ≡ work w h p (shown lens w h src d)
   work-later =
-      earlier-work n (record { work = work w h p; reads = reads p; region = empty }) (work-local w h p) (S .earlier) _ _ (drawn-agree w h n r new src d d′ D)
+      earlier-work n (record { work = work w h p; reads = reads p; region = empty }) (work-local w h p) (S .earlier) _ _ (drawn-agree w h n r new lens src d d′ D)
 
 -- a primitive that is known
 module _ (w h : ℕ) (p q : Primitive) (e : p ≡ q) where
-  pub drawable-known : (n : ℕ) (src ws : List ℕ) → Drawable w h n src ws p → Drawable w h n src ws q
-  drawable-known n src ws D = subst (λ (k : Primitive). Drawable w h n src ws k) e D
+  pub drawable-known : (n : ℕ) (lens : Lens) (src ws pairs : List ℕ) → Drawable w h n lens src ws pairs p → Drawable w h n lens src ws pairs q
+  drawable-known n lens src ws pairs D = subst (λ (k : Primitive). Drawable w h n lens src ws pairs k) e D
 
   pub prepared-known : (s t u v : List ℕ) → Prepared p s t u v → Prepared q s t u v
   prepared-known s t u v = subst (λ (k : Primitive). Prepared k s t u v) e

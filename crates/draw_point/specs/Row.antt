@@ -11,12 +11,15 @@ use Rattle.filter.specs.declared.Primitive.the-variants as P
 use Rattle.filter.specs.Kinds.{reads}
 use Rattle.filter.specs.Earlier.{Earlier}
 use Rattle.filter.specs.Accepted.{Bounded}
-use Rattle.stage.specs.Buffers.{stands, Sized, ValidInputs}
+use Rattle.stage.specs.declared.Lens.{Lens}
+use Rattle.stage.specs.Buffers.{Sized, ValidInputs}
+use Rattle.stage.specs.Shown.{shown, Tabled}
 
 -- step n can be worked on these buffers
-pub record Drawable (w h n : ℕ) (src ws : List ℕ) (p : Primitive) : Type 0 where
+pub record Drawable (w h n : ℕ) (lens : Lens) (src ws pairs : List ℕ) (p : Primitive) : Type 0 where
   pub sized : Sized w h n src ws
-  pub valid : ValidInputs n (stands w h src ws)
+  pub tabled : Tabled lens pairs
+  pub valid : ValidInputs n (shown lens w h src ws)
   pub earlier : Earlier n (reads p)
   pub bounded : Bounded p
 

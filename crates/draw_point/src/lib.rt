@@ -9,7 +9,8 @@ ghost use Rattle.filter.specs.declared.Primitive.the-variants as P;
 ghost use Rattle.filter.specs.Kinds.{work, reads};
 ghost use Rattle.filter.specs.Earlier.{Earlier};
 ghost use Rattle.filter.specs.Accepted.{Within, Bounded};
-ghost use Rattle.stage.specs.Buffers.{stands, Sized, ValidInputs};
+ghost use Rattle.stage.specs.Buffers.{Sized, ValidInputs};
+ghost use Rattle.stage.specs.Shown.{shown, Tabled};
 ghost use Rattle.stage.specs.Drawn.{Drawn};
 ghost use Rattle.draw_point.specs.Pointwise.{Pointwise};
 ghost use Rattle.draw_point.specs.Row.{Drawable, TableFree};
@@ -19,6 +20,7 @@ use filter::Rect;
 use pixel::Arithmetic;
 use pixel::Matrix;
 use rows::draw_prepared;
+use stage::Lens;
 
 // A kind that has no tables.
 fn draw_plain(
@@ -27,11 +29,13 @@ fn draw_plain(
     w: usize,
     h: usize,
     n: usize,
+    lens: Lens,
+    pairs: &[u8],
     primitive: Primitive,
     rect: Rect,
 )
-    requires { ⌜ Drawable w h n (now source) (now workspace) primitive × Pointwise primitive × TableFree primitive × Within w h rect × (rect .left ≤ rect .right) ⌝ }
-    ensures { λ _. ⌜ Drawn w h n rect (work w h primitive (stands w h (now (source .entry)) (now (workspace .entry)))) (now (workspace .entry)) (now (workspace .exit)) ⌝ }
+    requires { ⌜ Drawable w h n lens (now source) (now workspace) (now pairs) primitive × Pointwise primitive × TableFree primitive × Within w h rect × (rect .left ≤ rect .right) ⌝ }
+    ensures { λ _. ⌜ Drawn w h n rect (work w h primitive (shown lens w h (now (source .entry)) (now (workspace .entry)))) (now (workspace .entry)) (now (workspace .exit)) ⌝ }
 {
     let sums = [0u8; 1];
     let products = [0u64; 1];
@@ -43,6 +47,8 @@ fn draw_plain(
         w,
         h,
         n,
+        lens,
+        pairs,
         primitive,
         rect,
         &sums,
@@ -59,12 +65,14 @@ fn draw_transform(
     w: usize,
     h: usize,
     n: usize,
+    lens: Lens,
+    pairs: &[u8],
     i: Input,
     matrix: Matrix,
     rect: Rect,
 )
-    requires { ⌜ Drawable w h n (now source) (now workspace) (P.Transform i matrix) × Within w h rect × (rect .left ≤ rect .right) ⌝ }
-    ensures { λ _. ⌜ Drawn w h n rect (work w h (P.Transform i matrix) (stands w h (now (source .entry)) (now (workspace .entry)))) (now (workspace .entry)) (now (workspace .exit)) ⌝ }
+    requires { ⌜ Drawable w h n lens (now source) (now workspace) (now pairs) (P.Transform i matrix) × Within w h rect × (rect .left ≤ rect .right) ⌝ }
+    ensures { λ _. ⌜ Drawn w h n rect (work w h (P.Transform i matrix) (shown lens w h (now (source .entry)) (now (workspace .entry)))) (now (workspace .entry)) (now (workspace .exit)) ⌝ }
 {
     let sums = [0u8; 1];
     let mut products = [0u64; 4096];
@@ -79,6 +87,8 @@ fn draw_transform(
         w,
         h,
         n,
+        lens,
+        pairs,
         primitive,
         rect,
         &sums,
@@ -94,11 +104,13 @@ fn draw_luminance(
     w: usize,
     h: usize,
     n: usize,
+    lens: Lens,
+    pairs: &[u8],
     i: Input,
     rect: Rect,
 )
-    requires { ⌜ Drawable w h n (now source) (now workspace) (P.Luminance i) × Within w h rect × (rect .left ≤ rect .right) ⌝ }
-    ensures { λ _. ⌜ Drawn w h n rect (work w h (P.Luminance i) (stands w h (now (source .entry)) (now (workspace .entry)))) (now (workspace .entry)) (now (workspace .exit)) ⌝ }
+    requires { ⌜ Drawable w h n lens (now source) (now workspace) (now pairs) (P.Luminance i) × Within w h rect × (rect .left ≤ rect .right) ⌝ }
+    ensures { λ _. ⌜ Drawn w h n rect (work w h (P.Luminance i) (shown lens w h (now (source .entry)) (now (workspace .entry)))) (now (workspace .entry)) (now (workspace .exit)) ⌝ }
 {
     let sums = [0u8; 1];
     let products = [0u64; 1];
@@ -113,6 +125,8 @@ fn draw_luminance(
         w,
         h,
         n,
+        lens,
+        pairs,
         primitive,
         rect,
         &sums,
@@ -128,13 +142,15 @@ fn draw_combine(
     w: usize,
     h: usize,
     n: usize,
+    lens: Lens,
+    pairs: &[u8],
     coefficients: Arithmetic,
     i: Input,
     j: Input,
     rect: Rect,
 )
-    requires { ⌜ Drawable w h n (now source) (now workspace) (P.Combine coefficients i j) × Within w h rect × (rect .left ≤ rect .right) ⌝ }
-    ensures { λ _. ⌜ Drawn w h n rect (work w h (P.Combine coefficients i j) (stands w h (now (source .entry)) (now (workspace .entry)))) (now (workspace .entry)) (now (workspace .exit)) ⌝ }
+    requires { ⌜ Drawable w h n lens (now source) (now workspace) (now pairs) (P.Combine coefficients i j) × Within w h rect × (rect .left ≤ rect .right) ⌝ }
+    ensures { λ _. ⌜ Drawn w h n rect (work w h (P.Combine coefficients i j) (shown lens w h (now (source .entry)) (now (workspace .entry)))) (now (workspace .entry)) (now (workspace .exit)) ⌝ }
 {
     let mut sums = [0u8; 65536];
     let products = [0u64; 1];
@@ -148,6 +164,8 @@ fn draw_combine(
         w,
         h,
         n,
+        lens,
+        pairs,
         primitive,
         rect,
         &sums,
@@ -164,25 +182,37 @@ pub fn draw_rows(
     w: usize,
     h: usize,
     n: usize,
+    lens: Lens,
+    pairs: &[u8],
     primitive: Primitive,
     rect: Rect,
 )
-    requires { ⌜ Sized w h n (now source) (now workspace) ⌝ }
-    requires { ⌜ ValidInputs n (stands w h (now source) (now workspace)) ⌝ }
+    requires { ⌜ Sized w h n (now source) (now workspace) × Tabled lens (now pairs) ⌝ }
+    requires { ⌜ ValidInputs n (shown lens w h (now source) (now workspace)) ⌝ }
     requires { ⌜ Earlier n (reads primitive) × Bounded primitive × Pointwise primitive × Within w h rect ⌝ }
-    ensures { λ _. ⌜ Drawn w h n rect (work w h primitive (stands w h (now (source .entry)) (now (workspace .entry)))) (now (workspace .entry)) (now (workspace .exit)) ⌝ }
+    ensures { λ _. ⌜ Drawn w h n rect (work w h primitive (shown lens w h (now (source .entry)) (now (workspace .entry)))) (now (workspace .entry)) (now (workspace .exit)) ⌝ }
 {
     if rect.right <= rect.left {
         return;
     }
     match primitive {
-        Primitive::Flood(_) => draw_plain(workspace, source, w, h, n, primitive, rect),
-        Primitive::Offset(_, _, _) => draw_plain(workspace, source, w, h, n, primitive, rect),
-        Primitive::Composite(_, _, _) => draw_plain(workspace, source, w, h, n, primitive, rect),
-        Primitive::Merge(_, _) => draw_plain(workspace, source, w, h, n, primitive, rect),
-        Primitive::Transform(i, m) => draw_transform(workspace, source, w, h, n, i, m, rect),
-        Primitive::Luminance(i) => draw_luminance(workspace, source, w, h, n, i, rect),
-        Primitive::Combine(k, i, j) => draw_combine(workspace, source, w, h, n, k, i, j, rect),
+        Primitive::Flood(_) => draw_plain(workspace, source, w, h, n, lens, pairs, primitive, rect),
+        Primitive::Offset(_, _, _) => {
+            draw_plain(workspace, source, w, h, n, lens, pairs, primitive, rect)
+        }
+        Primitive::Composite(_, _, _) => {
+            draw_plain(workspace, source, w, h, n, lens, pairs, primitive, rect)
+        }
+        Primitive::Merge(_, _) => {
+            draw_plain(workspace, source, w, h, n, lens, pairs, primitive, rect)
+        }
+        Primitive::Transform(i, m) => {
+            draw_transform(workspace, source, w, h, n, lens, pairs, i, m, rect)
+        }
+        Primitive::Luminance(i) => draw_luminance(workspace, source, w, h, n, lens, pairs, i, rect),
+        Primitive::Combine(k, i, j) => {
+            draw_combine(workspace, source, w, h, n, lens, pairs, k, i, j, rect)
+        }
         Primitive::Blur(_, _, _) => return,
         Primitive::Erode(_, _, _) => return,
         Primitive::Dilate(_, _, _) => return,

@@ -10,10 +10,12 @@ ghost use Rattle.pixel.specs.Composite.{composited};
 ghost use Rattle.filter.specs.declared.Primitive.the-variants as P;
 ghost use Rattle.filter.specs.Kinds.{work};
 ghost use Rattle.filter.specs.Checks.{allowed?};
-ghost use Rattle.stage.specs.Buffers.{stands, rowAt, Loaded, Sized, ValidInputs};
+ghost use Rattle.stage.specs.Buffers.{rowAt, Loaded, Sized, ValidInputs};
+ghost use Rattle.stage.specs.Shown.{shown, Tabled};
 ghost use Rattle.draw_point.specs.Row.{Drawable, Span, inputAt};
 use filter::Input;
 use filter::Inputs;
+use stage::Lens;
 
 fn input_at(inputs: Inputs, j: usize) -> Input
     ensures { λ r. ⌜ r ≡ inputAt inputs j ⌝ }
@@ -37,7 +39,9 @@ fn lay(
     w: usize,
     h: usize,
     n: usize,
-    input: Input,
+    lens: Lens,
+    pairs: &[u8],
+    i: Input,
     y: usize,
     from: usize,
     to: usize,
@@ -45,11 +49,12 @@ fn lay(
     g: &mut [u8],
     under: &mut [u8],
 )
-    requires { ⌜ Sized w h n (now source) (now workspace) × ValidInputs n (stands w h (now source) (now workspace)) × (allowed? n input ≡ true) × Span w h y from to ⌝ }
+    requires { ⌜ Sized w h n (now source) (now workspace) × Tabled lens (now pairs) ⌝ }
+    requires { ⌜ ValidInputs n (shown lens w h (now source) (now workspace)) × (allowed? n i ≡ true) × Span w h y from to ⌝ }
     requires { ⌜ (length (now a) ≡ 4 * (to - from)) × (length (now g) ≡ 4 * (to - from)) × (length (now under) ≡ 4 * (to - from)) × ValidRow (now under) (to - from) ⌝ }
-    ensures { λ _. ⌜ Painted (λ x. composited op.Over (stands w h (now (source .entry)) (now (workspace .entry)) input (from + x) y) (pixelAt (now (under .entry)) (4 * x))) 0 0 (to - from) (now (under .entry)) (now (under .exit)) × ValidRow (now (under .exit)) (to - from) ⌝ }
+    ensures { λ _. ⌜ Painted (λ x. composited op.Over (shown lens w h (now (source .entry)) (now (workspace .entry)) i (from + x) y) (pixelAt (now (under .entry)) (4 * x))) 0 0 (to - from) (now (under .entry)) (now (under .exit)) × ValidRow (now (under .exit)) (to - from) ⌝ }
 {
-    stage::load(workspace, source, w, h, n, input, y, from, to, a);
+    stage::load(workspace, source, w, h, n, lens, pairs, i, y, from, to, a);
     raster::composite::over_onto(&a[..], g, under, to - from);
 }
 
@@ -60,6 +65,8 @@ fn stack(
     w: usize,
     h: usize,
     n: usize,
+    lens: Lens,
+    pairs: &[u8],
     count: usize,
     inputs: Inputs,
     y: usize,
@@ -69,15 +76,43 @@ fn stack(
     g: &mut [u8],
     row: &mut [u8],
 )
-    requires { ⌜ Drawable w h n (now source) (now workspace) (P.Merge count inputs) × Span w h y from to ⌝ }
+    requires { ⌜ Drawable w h n lens (now source) (now workspace) (now pairs) (P.Merge count inputs) × Span w h y from to ⌝ }
     requires { ⌜ (length (now a) ≡ 4 * (to - from)) × (length (now g) ≡ 4 * (to - from)) × (length (now row) ≡ 4 * (to - from)) ⌝ }
-    ensures { λ _. ⌜ Loaded (work w h (P.Merge count inputs) (stands w h (now (source .entry)) (now (workspace .entry)))) y from to (now (row .entry)) (now (row .exit)) ⌝ }
+    ensures { λ _. ⌜ Loaded (work w h (P.Merge count inputs) (shown lens w h (now (source .entry)) (now (workspace .entry)))) y from to (now (row .entry)) (now (row .exit)) ⌝ }
 {
     let first = inputs.first;
-    stage::load(workspace, source, w, h, n, first, y, from, to, row);
+    stage::load(
+        workspace,
+        source,
+        w,
+        h,
+        n,
+        lens,
+        pairs,
+        first,
+        y,
+        from,
+        to,
+        row,
+    );
     for j in 1..count {
         let input = input_at(inputs, j);
-        lay(workspace, source, w, h, n, input, y, from, to, a, g, row);
+        lay(
+            workspace,
+            source,
+            w,
+            h,
+            n,
+            lens,
+            pairs,
+            input,
+            y,
+            from,
+            to,
+            a,
+            g,
+            row,
+        );
     }
 }
 
@@ -87,6 +122,8 @@ pub fn paint_merge(
     w: usize,
     h: usize,
     n: usize,
+    lens: Lens,
+    pairs: &[u8],
     count: usize,
     inputs: Inputs,
     y: usize,
@@ -96,9 +133,9 @@ pub fn paint_merge(
     g: &mut [u8],
     row: &mut [u8],
 )
-    requires { ⌜ Drawable w h n (now source) (now workspace) (P.Merge count inputs) × Span w h y from to ⌝ }
+    requires { ⌜ Drawable w h n lens (now source) (now workspace) (now pairs) (P.Merge count inputs) × Span w h y from to ⌝ }
     requires { ⌜ (length (now a) ≡ 4 * (to - from)) × (length (now g) ≡ 4 * (to - from)) × (length (now row) ≡ 4 * (to - from)) ⌝ }
-    ensures { λ _. ⌜ Painted (λ x. work w h (P.Merge count inputs) (stands w h (now (source .entry)) (now (workspace .entry))) x y) (rowAt w h n y) from to (now (workspace .entry)) (now (workspace .exit)) ⌝ }
+    ensures { λ _. ⌜ Painted (λ x. work w h (P.Merge count inputs) (shown lens w h (now (source .entry)) (now (workspace .entry))) x y) (rowAt w h n y) from to (now (workspace .entry)) (now (workspace .exit)) ⌝ }
     ensures { λ _. ⌜ WorkBuffer (now (a .entry)) (now (a .exit)) × WorkBuffer (now (g .entry)) (now (g .exit)) ⌝ }
     ensures { λ _. ⌜ WorkBuffer (now (row .entry)) (now (row .exit)) ⌝ }
 {
@@ -108,6 +145,8 @@ pub fn paint_merge(
         w,
         h,
         n,
+        lens,
+        pairs,
         count,
         inputs,
         y,

@@ -9,13 +9,15 @@ ghost use Rattle.filter.specs.declared.Primitive.the-variants as P;
 ghost use Rattle.filter.specs.Kinds.{work};
 ghost use Rattle.filter.specs.Bytes.{size};
 ghost use Rattle.filter.specs.Limits.{longestSide, mostPixels, mostSteps};
-ghost use Rattle.stage.specs.Buffers.{stands, rowAt};
+ghost use Rattle.stage.specs.Buffers.{rowAt};
+ghost use Rattle.stage.specs.Shown.{shown};
 ghost use Rattle.draw_point.specs.Row.{Drawable, Span};
 use filter::Input;
 use pixel::Arithmetic;
 use pixel::Matrix;
 use pixel::Operator;
 use pixel::Pixel;
+use stage::Lens;
 
 // The index in the workspace of the pixel x of row y of layer n.
 pub fn start(w: usize, h: usize, n: usize, y: usize, x: usize) -> usize
@@ -50,6 +52,8 @@ pub fn paint_composite(
     w: usize,
     h: usize,
     n: usize,
+    lens: Lens,
+    pairs: &[u8],
     op: Operator,
     i: Input,
     j: Input,
@@ -61,17 +65,43 @@ pub fn paint_composite(
     f: &mut [u8],
     g: &mut [u8],
 )
-    requires { ⌜ Drawable w h n (now source) (now workspace) (P.Composite op i j) × Span w h y from to ⌝ }
+    requires { ⌜ Drawable w h n lens (now source) (now workspace) (now pairs) (P.Composite op i j) × Span w h y from to ⌝ }
     requires { ⌜ (length (now a) ≡ 4 * (to - from)) × (length (now b) ≡ 4 * (to - from)) × (length (now f) ≡ 4 * (to - from)) × (length (now g) ≡ 4 * (to - from)) ⌝ }
-    ensures { λ _. ⌜ Painted (λ x. work w h (P.Composite op i j) (stands w h (now (source .entry)) (now (workspace .entry))) x y) (rowAt w h n y) from to (now (workspace .entry)) (now (workspace .exit)) ⌝ }
+    ensures { λ _. ⌜ Painted (λ x. work w h (P.Composite op i j) (shown lens w h (now (source .entry)) (now (workspace .entry))) x y) (rowAt w h n y) from to (now (workspace .entry)) (now (workspace .exit)) ⌝ }
     ensures { λ _. ⌜ WorkBuffer (now (a .entry)) (now (a .exit)) × WorkBuffer (now (b .entry)) (now (b .exit)) ⌝ }
     ensures { λ _. ⌜ WorkBuffer (now (f .entry)) (now (f .exit)) × WorkBuffer (now (g .entry)) (now (g .exit)) ⌝ }
 {
     let count = to - from;
     let lo = start(w, h, n, y, from);
     let hi = lo + 4 * count;
-    stage::load(&workspace[..], source, w, h, n, i, y, from, to, a);
-    stage::load(&workspace[..], source, w, h, n, j, y, from, to, b);
+    stage::load(
+        &workspace[..],
+        source,
+        w,
+        h,
+        n,
+        lens,
+        pairs,
+        i,
+        y,
+        from,
+        to,
+        a,
+    );
+    stage::load(
+        &workspace[..],
+        source,
+        w,
+        h,
+        n,
+        lens,
+        pairs,
+        j,
+        y,
+        from,
+        to,
+        b,
+    );
     raster::composite::composite_row(op, &a[..], &b[..], f, g, &mut workspace[lo..hi], count);
 }
 
@@ -81,6 +111,8 @@ pub fn paint_combine(
     w: usize,
     h: usize,
     n: usize,
+    lens: Lens,
+    pairs: &[u8],
     coefficients: Arithmetic,
     i: Input,
     j: Input,
@@ -91,16 +123,42 @@ pub fn paint_combine(
     a: &mut [u8],
     b: &mut [u8],
 )
-    requires { ⌜ Drawable w h n (now source) (now workspace) (P.Combine coefficients i j) × Span w h y from to ⌝ }
+    requires { ⌜ Drawable w h n lens (now source) (now workspace) (now pairs) (P.Combine coefficients i j) × Span w h y from to ⌝ }
     requires { ⌜ Combines coefficients (now sums) × (length (now a) ≡ 4 * (to - from)) × (length (now b) ≡ 4 * (to - from)) ⌝ }
-    ensures { λ _. ⌜ Painted (λ x. work w h (P.Combine coefficients i j) (stands w h (now (source .entry)) (now (workspace .entry))) x y) (rowAt w h n y) from to (now (workspace .entry)) (now (workspace .exit)) ⌝ }
+    ensures { λ _. ⌜ Painted (λ x. work w h (P.Combine coefficients i j) (shown lens w h (now (source .entry)) (now (workspace .entry))) x y) (rowAt w h n y) from to (now (workspace .entry)) (now (workspace .exit)) ⌝ }
     ensures { λ _. ⌜ WorkBuffer (now (a .entry)) (now (a .exit)) × WorkBuffer (now (b .entry)) (now (b .exit)) ⌝ }
 {
     let count = to - from;
     let lo = start(w, h, n, y, from);
     let hi = lo + 4 * count;
-    stage::load(&workspace[..], source, w, h, n, i, y, from, to, a);
-    stage::load(&workspace[..], source, w, h, n, j, y, from, to, b);
+    stage::load(
+        &workspace[..],
+        source,
+        w,
+        h,
+        n,
+        lens,
+        pairs,
+        i,
+        y,
+        from,
+        to,
+        a,
+    );
+    stage::load(
+        &workspace[..],
+        source,
+        w,
+        h,
+        n,
+        lens,
+        pairs,
+        j,
+        y,
+        from,
+        to,
+        b,
+    );
     raster_color::arithmetic::combine_row(
         coefficients,
         sums,
@@ -117,6 +175,8 @@ pub fn paint_transform(
     w: usize,
     h: usize,
     n: usize,
+    lens: Lens,
+    pairs: &[u8],
     i: Input,
     matrix: Matrix,
     y: usize,
@@ -126,15 +186,28 @@ pub fn paint_transform(
     inverse: &[u32],
     a: &mut [u8],
 )
-    requires { ⌜ Drawable w h n (now source) (now workspace) (P.Transform i matrix) × Span w h y from to ⌝ }
+    requires { ⌜ Drawable w h n lens (now source) (now workspace) (now pairs) (P.Transform i matrix) × Span w h y from to ⌝ }
     requires { ⌜ Mixes matrix (now products) × Unpremultiplies (now inverse) × (length (now a) ≡ 4 * (to - from)) ⌝ }
-    ensures { λ _. ⌜ Painted (λ x. work w h (P.Transform i matrix) (stands w h (now (source .entry)) (now (workspace .entry))) x y) (rowAt w h n y) from to (now (workspace .entry)) (now (workspace .exit)) ⌝ }
+    ensures { λ _. ⌜ Painted (λ x. work w h (P.Transform i matrix) (shown lens w h (now (source .entry)) (now (workspace .entry))) x y) (rowAt w h n y) from to (now (workspace .entry)) (now (workspace .exit)) ⌝ }
     ensures { λ _. ⌜ WorkBuffer (now (a .entry)) (now (a .exit)) ⌝ }
 {
     let count = to - from;
     let lo = start(w, h, n, y, from);
     let hi = lo + 4 * count;
-    stage::load(&workspace[..], source, w, h, n, i, y, from, to, a);
+    stage::load(
+        &workspace[..],
+        source,
+        w,
+        h,
+        n,
+        lens,
+        pairs,
+        i,
+        y,
+        from,
+        to,
+        a,
+    );
     raster_color::matrix::matrix_row(
         matrix,
         products,
@@ -151,6 +224,8 @@ pub fn paint_luminance(
     w: usize,
     h: usize,
     n: usize,
+    lens: Lens,
+    pairs: &[u8],
     i: Input,
     y: usize,
     from: usize,
@@ -159,14 +234,27 @@ pub fn paint_luminance(
     inverse: &[u32],
     a: &mut [u8],
 )
-    requires { ⌜ Drawable w h n (now source) (now workspace) (P.Luminance i) × Span w h y from to ⌝ }
+    requires { ⌜ Drawable w h n lens (now source) (now workspace) (now pairs) (P.Luminance i) × Span w h y from to ⌝ }
     requires { ⌜ Weighs (now luma) × Unpremultiplies (now inverse) × (length (now a) ≡ 4 * (to - from)) ⌝ }
-    ensures { λ _. ⌜ Painted (λ x. work w h (P.Luminance i) (stands w h (now (source .entry)) (now (workspace .entry))) x y) (rowAt w h n y) from to (now (workspace .entry)) (now (workspace .exit)) ⌝ }
+    ensures { λ _. ⌜ Painted (λ x. work w h (P.Luminance i) (shown lens w h (now (source .entry)) (now (workspace .entry))) x y) (rowAt w h n y) from to (now (workspace .entry)) (now (workspace .exit)) ⌝ }
     ensures { λ _. ⌜ WorkBuffer (now (a .entry)) (now (a .exit)) ⌝ }
 {
     let count = to - from;
     let lo = start(w, h, n, y, from);
     let hi = lo + 4 * count;
-    stage::load(&workspace[..], source, w, h, n, i, y, from, to, a);
+    stage::load(
+        &workspace[..],
+        source,
+        w,
+        h,
+        n,
+        lens,
+        pairs,
+        i,
+        y,
+        from,
+        to,
+        a,
+    );
     raster_color::luminance::luminance_row(luma, inverse, &a[..], &mut workspace[lo..hi], count);
 }

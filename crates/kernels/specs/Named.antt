@@ -1,4 +1,4 @@
--- Operators, coefficients and extremes as plain numbers. Assumes nothing.
+-- Operators, coefficients, extremes and spaces as plain numbers. Assumes nothing.
 use Prim.Native.Nat.{ℕ}
 use mathlib.Core.Bool.{Bool, cond}
 use lib.Dec.{eqb}
@@ -6,6 +6,8 @@ use Rattle.number.specs.declared.Fixed.{Fixed}
 use Rattle.pixel.specs.declared.Arithmetic.{Arithmetic}
 use Rattle.pixel.specs.declared.Operator.{Operator}
 use Rattle.pixel.specs.declared.Operator.the-variants.{Over, In, Out, Atop, Xor}
+use Rattle.pixel.specs.declared.Space.{Space}
+use Rattle.pixel.specs.declared.Space.the-variants.{Srgb, Linear}
 use Rattle.raster_morph.specs.declared.Extreme.{Extreme}
 use Rattle.raster_morph.specs.declared.Extreme.the-variants.{Least, Largest}
 
@@ -23,3 +25,7 @@ units u = record { above = u; below = 0 }
 
 abbrev pub arithmetic : ℕ → ℕ → ℕ → ℕ → Arithmetic
 arithmetic k1 k2 k3 k4 = record { k1 = units k1; k2 = units k2; k3 = units k3; k4 = units k4 }
+
+-- the space that a conversion leads to
+abbrev pub spaceOf : Bool → Space
+spaceOf linear = cond linear Linear Srgb

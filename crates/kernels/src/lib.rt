@@ -2,5 +2,6 @@
 pub mod blur;
 pub mod color;
 pub mod composite;
+pub mod convert;
 pub mod morph;
 pub mod row;

@@ -1,6 +1,6 @@
 -- The loop of `draw_steps`: where it stands after n steps, its start, a turn and its end. Assumes nothing.
 use mathlib.Core.Path.{_≡_, refl, _∙_, subst}
-use mathlib.Core.Bool.{true}
+use mathlib.Core.Bool.{true, false}
 use mathlib.Core.WellFounded.{WellFounded, InvImage·wf}
 use mathlib.Core.List.{List, [], _∷_}
 use Prim.Native.Nat.{ℕ, _+_, _-_, _<_, _≤_}
@@ -20,8 +20,8 @@ use Rattle.filter.specs.Rect.{empty}
 use Rattle.filter.specs.Steps.{stepAt}
 use Rattle.filter.specs.Answers.{accepted?}
 use Rattle.filter.specs.Limits.{mostSteps}
-use Rattle.plan.specs.declared.Damages.{Damages}
-use Rattle.plan.proofs.Damages as D
+use Rattle.plan.specs.declared.SoFar.{SoFar}
+use Rattle.plan.proofs.SoFar as D
 use Rattle.layers.specs.Drawing.{ReadyFor, Drawing}
 use Rattle.layers.specs.Next.{NextReady, NextDrawn, ScratchAfter}
 use Rattle.layers.proofs.Progress.{Progress, progress-none, progress-ready, progress-more, progress-done}
@@ -32,14 +32,14 @@ needs-two 𝓤 φ ψ P h =
     let both : SProp 𝓤 = sep 𝓤 (fact 𝓤 φ) (fact 𝓤 ψ) in
     fact-use 𝓤 φ (via 𝓤 both (snd∗ 𝓤 P both) (fst∗ 𝓤 (fact 𝓤 φ) (fact 𝓤 ψ))) (λ x. fact-use 𝓤 ψ (via 𝓤 both (snd∗ 𝓤 P both) (snd∗ 𝓤 (fact 𝓤 φ) (fact 𝓤 ψ))) (λ y. via 𝓤 P (fst∗ 𝓤 P both) (h x y)))
 
--- what `no_damages` says
-abbrev pub None : Damages → Type 0
-None d = (d .rects ≡ replicate mostSteps empty) × (d .count ≡ 0)
+-- what `none_so_far` says
+abbrev pub None : SoFar → Type 0
+None d = (d .rects ≡ replicate mostSteps empty) × (d .count ≡ 0) × (d .linear ≡ replicate mostSteps false)
 
 -- where the loop stands after n steps
 pub record St (call : Call) (sheet : Sheet) (ans : Answer) (ys : List Step) (src ws₀ sc₀ : List ℕ) : Type 0 where
   pub n : ℕ
-  pub d : Damages
+  pub d : SoFar
   pub v : Val
   pub ws : List ℕ
   pub sc : List ℕ
@@ -59,18 +59,18 @@ module _ (call : Call) (sheet : Sheet) (ans : Answer) (ys : List Step) (src ws�
   pub Nearer-wf : WellFounded Nearer
   Nearer-wf = InvImage·wf (λ (t : Stt). sheet .count - t .n) (Nat·lt-wfRel .wf)
 
-  abbrev pub start : (d : Damages) (v : Val) → Is D.the-row d (v ∷ []) → None d → Stt
+  abbrev pub start : (d : SoFar) (v : Val) → Is D.the-row d (v ∷ []) → None d → Stt
   start d v g e = record { n = 0; d = d; v = v; ws = ws₀; sc = sc₀; few = omega arith; own = g; lw = refl; lc = refl; is = progress-none sheet ys src ws₀ sc₀ call ans d e }
 
   -- what `draw_next` leaves
-  abbrev pub Next : Stt → List ℕ → Damages → Type 0
+  abbrev pub Next : Stt → List ℕ → SoFar → Type 0
   Next t w d = NextDrawn call sheet ans (t .n) (stepAt ys (t .n)) src (t .ws) w (t .d) d
 
   pub nearer : (t : Stt) → t .n < sheet .count → sheet .count - (t .n + 1) < sheet .count - t .n
   nearer t l = omega arith
 
   module _ (R : accepted? ans ≡ true → ReadyFor call sheet ys src ws₀ sc₀) where
-    abbrev pub next : (t : Stt) → t .n < sheet .count → (w c : List ℕ) (d : Damages) (v : Val) → Is D.the-row d (v ∷ []) → length w ≡ length (t .ws) → length c ≡ length (t .sc) → Next t w d → ScratchAfter ans (t .sc) c → Stt
+    abbrev pub next : (t : Stt) → t .n < sheet .count → (w c : List ℕ) (d : SoFar) (v : Val) → Is D.the-row d (v ∷ []) → length w ≡ length (t .ws) → length c ≡ length (t .sc) → Next t w d → ScratchAfter ans (t .sc) c → Stt
     next t l w c d v g ew ec f k = record {
       n = t .n + 1;
       d = d;

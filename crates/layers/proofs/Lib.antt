@@ -1,6 +1,7 @@
 -- Laws of the loops over the steps of a sheet.
 pub mod Regions
 pub mod Standing
+pub mod Kept
 pub mod Rendering
 pub mod Redrawing
 pub mod Progress

@@ -1,17 +1,22 @@
 -- The loop of a redraw: after n steps the first n layers are redrawn, the others as they were. Assumes nothing.
 use Prim.Native.Nat.{ℕ, _+_, _*_, _≤_, _<_}
 use mathlib.Core.Path.{_≡_, refl, sym, ap, ap₂, _∙_}
+use mathlib.Core.Bool.{true}
 use mathlib.Core.List.{List}
 use native.Mathlib.Omega.{arith}
 use lib.ListN.{length}
 use Rattle.filter.specs.declared.Rect.{Rect}
+use Rattle.pixel.specs.declared.Space.{Space}
+use Rattle.filter.specs.declared.Input.{Input}
 use Rattle.filter.specs.declared.Step.{Step}
 use Rattle.filter.specs.Rect.{canvasOf}
 use Rattle.filter.specs.Picture.{Picture, patch}
 use Rattle.filter.specs.Effect.{Env, Effect}
 use Rattle.filter.specs.Layers.{result, damage, damages, redrawn}
-use Rattle.filter.specs.Steps.{effectOf, effectsOf, stepAt}
+use Rattle.filter.specs.Steps.{stepAt}
+use Rattle.filter.specs.Sheets.{spaceOf, effectOf, effectsOf}
 use Rattle.filter.specs.Bytes.{size, read, Holds, redrawnOf}
+use Rattle.filter.specs.Checks.{allowed?}
 use Rattle.filter.specs.Earlier.{AgreeBefore}
 use Rattle.filter.specs.Valid.{FloodBytes}
 use Rattle.filter.proofs.Redraws.{redrawn-layer}
@@ -63,26 +68,26 @@ module _ (w h : ℕ) (steps : List Step) (count : ℕ) (r : Rect) (src ws scr : 
       scratch = G .scratch ∙ R .scratch;
       inputs =
           valid-agree n _ _ agree
-          (record { valid = λ i t. redrawn-valid (canvasOf w h) effects (read w h src 0) (R .valid) r old n (λ m q. step-valid w h (stepAt steps m) (floods m (omega arith))) (λ m q. olds .valid m (omega arith)) i });
+          (record { valid = λ i t. redrawn-valid (canvasOf w h) effects (read w h src 0) (R .valid) r old n (λ m q. step-valid w h (spaceOf steps) (stepAt steps m) (floods m (omega arith))) (λ m q. olds .valid m (omega arith)) i });
       accepted = rw is (R .sheet .each n l);
     }
 
-    pub redrawing-more : (rect : Rect) → rect ≡ damage (canvasOf w h) (effects n) (damages (canvasOf w h) effects r n) → (d′ s′ : List ℕ)
-        → Stood w h n (patch rect (result (canvasOf w h) (effectOf w h step) (stands w h src d)) (read w h d (n * size w h))) d d′
+    pub redrawing-more : (spaces : Input → Space) → ((i : Input) → allowed? n i ≡ true → spaces i ≡ spaceOf steps i) → (rect : Rect) → rect ≡ damage (canvasOf w h) (effects n) (damages (canvasOf w h) effects r n) → (d′ s′ : List ℕ)
+        → Stood w h n (patch rect (result (canvasOf w h) (effectOf w h spaces step) (stands w h src d)) (read w h d (n * size w h))) d d′
         → length s′ ≡ length s → Redrawing (n + 1) d′ s′
-    redrawing-more rect rect-is d′ s′ T e = record {
+    redrawing-more spaces known rect rect-is d′ s′ T e = record {
       long = T .long ∙ G .long;
       scratch = e ∙ G .scratch;
       done = upto-more w h n _ _ d d′ layer-is (G .done) T;
       rest = λ k m. T .others k (omega arith) ∙ G .rest k (omega arith);
     }
       where
-        result-is : result (canvasOf w h) (effectOf w h step) (stands w h src d) ≡ result (canvasOf w h) (effects n) (after n)
+        result-is : result (canvasOf w h) (effectOf w h spaces step) (stands w h src d) ≡ result (canvasOf w h) (effects n) (after n)
         result-is =
-            ap (λ (x : Step). result (canvasOf w h) (effectOf w h x) (stands w h src d)) is
-            ∙ result-same w h n (stepAt steps n) _ _ (R .sheet .each n l .inputs) agree
+            ap (λ (x : Step). result (canvasOf w h) (effectOf w h spaces x) (stands w h src d)) is
+            ∙ result-same w h n (stepAt steps n) spaces (spaceOf steps) _ _ (R .sheet .each n l .inputs) known agree
 
-        layer-is : patch rect (result (canvasOf w h) (effectOf w h step) (stands w h src d)) (read w h d (n * size w h)) ≡ redrawnOf w h steps count r ws src n
+        layer-is : patch rect (result (canvasOf w h) (effectOf w h spaces step) (stands w h src d)) (read w h d (n * size w h)) ≡ redrawnOf w h steps count r ws src n
         layer-is =
             ap₂ (λ (q : Rect) (p : Picture). patch q p (read w h d (n * size w h))) rect-is result-is
             ∙ ap (patch (damage (canvasOf w h) (effects n) (damages (canvasOf w h) effects r n)) (result (canvasOf w h) (effects n) (after n))) (G .rest n (omega arith))

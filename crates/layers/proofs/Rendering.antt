@@ -1,15 +1,20 @@
 -- The loop of a full render: after n steps the first n layers of the sheet stand in the workspace. Assumes nothing.
 use Prim.Native.Nat.{ℕ, _+_, _*_, _<_}
 use mathlib.Core.Path.{_≡_, refl, sym, ap, _∙_}
+use mathlib.Core.Bool.{true}
 use mathlib.Core.List.{List}
 use native.Mathlib.Omega.{arith}
 use lib.ListN.{length}
+use Rattle.pixel.specs.declared.Space.{Space}
+use Rattle.filter.specs.declared.Input.{Input}
 use Rattle.filter.specs.declared.Step.{Step}
 use Rattle.filter.specs.Rect.{canvasOf}
 use Rattle.filter.specs.Effect.{Env, Effect}
 use Rattle.filter.specs.Layers.{result, rendered}
-use Rattle.filter.specs.Steps.{effectOf, effectsOf, stepAt}
+use Rattle.filter.specs.Steps.{stepAt}
+use Rattle.filter.specs.Sheets.{spaceOf, effectOf, effectsOf}
 use Rattle.filter.specs.Bytes.{size, read, Holds, layersOf}
+use Rattle.filter.specs.Checks.{allowed?}
 use Rattle.filter.specs.Earlier.{AgreeBefore}
 use Rattle.filter.specs.Valid.{FloodBytes}
 use Rattle.filter.proofs.Redraws.{rendered-layer}
@@ -57,19 +62,19 @@ module _ (w h : ℕ) (steps : List Step) (count : ℕ) (src ws scr : List ℕ) w
       scratch = G .scratch ∙ R .scratch;
       inputs =
           valid-agree n _ _ agree
-          (record { valid = λ i t. rendered-valid (canvasOf w h) effects (read w h src 0) (R .valid) n (λ k m. step-valid w h (stepAt steps k) (floods k (omega arith))) i });
+          (record { valid = λ i t. rendered-valid (canvasOf w h) effects (read w h src 0) (R .valid) n (λ k m. step-valid w h (spaceOf steps) (stepAt steps k) (floods k (omega arith))) i });
       accepted = rw is (R .sheet .each n l);
     }
 
-    pub rendering-more : (d′ s′ : List ℕ) → Stood w h n (result (canvasOf w h) (effectOf w h step) (stands w h src d)) d d′ → length s′ ≡ length s → Rendering (n + 1) d′ s′
-    rendering-more d′ s′ T e = record {
+    pub rendering-more : (spaces : Input → Space) → ((i : Input) → allowed? n i ≡ true → spaces i ≡ spaceOf steps i) → (d′ s′ : List ℕ) → Stood w h n (result (canvasOf w h) (effectOf w h spaces step) (stands w h src d)) d d′ → length s′ ≡ length s → Rendering (n + 1) d′ s′
+    rendering-more spaces known d′ s′ T e = record {
       long = T .long ∙ G .long;
       scratch = e ∙ G .scratch;
       done = upto-more w h n _ _ d d′ layer-is (G .done) T;
     }
       where
-        layer-is : result (canvasOf w h) (effectOf w h step) (stands w h src d) ≡ layersOf w h steps count src n
+        layer-is : result (canvasOf w h) (effectOf w h spaces step) (stands w h src d) ≡ layersOf w h steps count src n
         layer-is =
-            ap (λ (x : Step). result (canvasOf w h) (effectOf w h x) (stands w h src d)) is
-            ∙ result-same w h n (stepAt steps n) _ _ (R .sheet .each n l .inputs) agree
+            ap (λ (x : Step). result (canvasOf w h) (effectOf w h spaces x) (stands w h src d)) is
+            ∙ result-same w h n (stepAt steps n) spaces (spaceOf steps) _ _ (R .sheet .each n l .inputs) known agree
             ∙ sym (rendered-layer (canvasOf w h) effects (read w h src 0) n count l)

@@ -13,7 +13,8 @@ use Rattle.filter.specs.declared.Answer.{Answer}
 use Rattle.filter.specs.Rect.{canvasOf, boundsOf}
 use Rattle.filter.specs.Picture.{Picture}
 use Rattle.filter.specs.Layers as L
-use Rattle.filter.specs.Steps.{stepAt, effectsOf}
+use Rattle.filter.specs.Steps.{stepAt}
+use Rattle.filter.specs.Sheets.{effectsOf}
 use Rattle.filter.specs.Bytes.{Holds, layersOf, redrawnOf}
 use Rattle.filter.specs.Answers.{accepted?}
 use Rattle.filter.specs.Accepted.{OnCanvas}

@@ -1,4 +1,5 @@
 // The steps of a sheet, which stand in a lent list: checked one after another, then drawn, each layer whole or in its redraw rectangle only.
+mod lenses;
 pub mod steps;
 
 ghost use mathlib.Core.Path.{_≡_};
@@ -14,9 +15,9 @@ use filter::Answer;
 use filter::Call;
 use filter::Sheet;
 use filter::Step;
-use plan::Damages;
+use plan::SoFar;
 use plan::checks::check_next;
-use plan::damage::no_damages;
+use plan::progress::none_so_far;
 use steps::draw_next;
 
 // Checks 7 to 11 and 13 of the first `count` steps.
@@ -43,27 +44,27 @@ pub fn draw_steps(
     source: &[u8],
     workspace: &mut [u8],
     scratch: &mut [u8],
-) -> Damages
+) -> SoFar
     requires { ⌜ sheet .count ≤ length (now steps) ⌝ }
     requires { ⌜ (accepted? answer ≡ true → ReadyFor call sheet (now steps) (now source) (now workspace) (now scratch)) ⌝ }
     ensures { λ d. ⌜ Drawing call sheet answer (now (steps .entry)) (now (source .entry)) (now (workspace .entry)) (now (scratch .entry)) (now (workspace .exit)) (now (scratch .exit)) (d .count) ⌝ }
 {
     let count = sheet.count;
-    let mut damages = no_damages();
+    let mut so_far = none_so_far();
     let mut n: usize = 0;
     while n < count {
-        damages = draw_next(
+        so_far = draw_next(
             call,
             sheet,
             answer,
             n,
             steps[n],
-            damages,
+            so_far,
             source,
             &mut *workspace,
             &mut *scratch,
         );
         n = n + 1;
     }
-    damages
+    so_far
 }

@@ -12,7 +12,7 @@ use types.Kit.{Given, Item}
 use types.Run.{Opd, lit}
 
 abbrev pub stepSize : ℕ
-stepSize = 432
+stepSize = 440
 
 pub size-lit : {M : Type 1} {𝓤 : URA M} {H : Heap 𝓤} {A : Atoms 𝓤} {K : Type 0} {W : Given 𝓤 H A} {Γ : List (Item 𝓤)} {E : Env 𝓤 H} → K → Opd K W Γ E (int w64 stepSize) (vint w64 stepSize)
 size-lit t = lit t tt

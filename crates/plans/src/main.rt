@@ -14,7 +14,7 @@ use filter::Rect;
 use filter::Region;
 use filter::Sheet;
 use filter::Step;
-use plan::Damages;
+use plan::SoFar;
 use tables::field::hex;
 use text::Form;
 use text::ReadAnswer;
@@ -91,7 +91,7 @@ fn print_rect(r: Rect) {
     }
 }
 
-fn print_damages(count: usize, d: Damages)
+fn print_damages(count: usize, d: SoFar)
     requires { ⌜ count ≤ mostSteps ⌝ }
 {
     print_number(d.count as u64);
@@ -111,7 +111,7 @@ fn check_canvas(w: usize, h: usize, count: usize) -> Answer
 }
 
 // The rectangles with that of step n, where the step is not refused.
-fn next_damages(w: usize, h: usize, n: usize, step: Step, named: Rect, damages: Damages) -> Damages
+fn next_damages(w: usize, h: usize, n: usize, step: Step, named: Rect, damages: SoFar) -> SoFar
     requires { ⌜ (n < mostSteps) × (w ≤ longestSide) × (h ≤ longestSide) × (damages .count ≤ n * mostPixels) ⌝ }
     requires { ⌜ (length (damages .rects) ≡ mostSteps) × AllWithin longestSide longestSide named (damages .rects) ⌝ }
     ensures { λ o. ⌜ (o .count ≤ (n + 1) * mostPixels) × (length (o .rects) ≡ mostSteps) × AllWithin longestSide longestSide named (o .rects) ⌝ }
@@ -121,7 +121,7 @@ fn next_damages(w: usize, h: usize, n: usize, step: Step, named: Rect, damages: 
     }
     let rects = damages.rects;
     let rect = plan::damage::step_damage(w, h, step, named, rects);
-    plan::damage::with_damage(damages, n, rect)
+    plan::progress::with_rect(damages, n, rect)
 }
 
 // The steps of the lines, one after another: their checks, then their rectangles.
@@ -129,7 +129,7 @@ fn print_steps(w: usize, h: usize, named: Rect, lines: &[u8], count: usize)
     requires { ⌜ (w ≤ longestSide) × (h ≤ longestSide) × (count ≤ mostSteps) × Within longestSide longestSide named ⌝ }
 {
     let mut answer = Answer::Done;
-    let mut damages = plan::damage::no_damages();
+    let mut damages = plan::progress::none_so_far();
     let mut at: usize = 0;
     for n in 0..count {
         let e = text_field::lines::find(lines, at, 10);

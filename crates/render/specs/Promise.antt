@@ -14,7 +14,7 @@ use Rattle.filter.specs.declared.Region.{Region}
 use Rattle.filter.specs.declared.Sheet.{Sheet}
 use Rattle.filter.specs.declared.Step.{Step}
 use Rattle.filter.specs.Rect.{In, boundsOf, canvasOf}
-use Rattle.filter.specs.Steps.{effectsOf}
+use Rattle.filter.specs.Sheets.{effectsOf}
 use Rattle.filter.specs.Layers.{damages, count}
 use Rattle.filter.specs.Bytes.{size, bytesOf, layersOf, redrawnOf}
 use Rattle.filter.specs.Change.{SameOutside}

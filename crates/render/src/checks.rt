@@ -3,7 +3,7 @@ use super::Redrawn;
 use filter::Answer;
 use filter::Call;
 use filter::Sheet;
-use plan::Damages;
+use plan::SoFar;
 use plan::answers::first;
 use plan::answers::is_accepted;
 use plan::sizes::check_rectangle;
@@ -126,7 +126,7 @@ pub fn settle(
 }
 
 // After the work: "all zero after an accepted call".
-pub fn finish(answer: Answer, damages: Damages, scratch: &mut [u8]) -> Redrawn
+pub fn finish(answer: Answer, damages: SoFar, scratch: &mut [u8]) -> Redrawn
     ensures { λ r. ⌜ r ≡ record { answer = answer; count = damages .count } ⌝ }
     ensures { λ _. ⌜ now (scratch .exit) ≡ ifAccepted answer (zeros (now (scratch .entry))) (now (scratch .entry)) ⌝ }
 {

@@ -1,5 +1,6 @@
 -- Laws of what is printed for a text.
 pub mod Rooms
 pub mod LastLayer
+pub mod LastSpace
 pub mod Printed
 pub mod Earlier

@@ -8,6 +8,7 @@ use lib.Dec.{leb}
 use lib.ListN.{length, take, drop, replicate, length-append}
 use lib.Seq.{take-at}
 use borrow.Author.Tests.{le-leb, lt-leb}
+use Rattle.pixel.specs.declared.Space.{Space}
 use Rattle.filter.specs.declared.Answer.{Answer}
 use Rattle.filter.specs.declared.Call.the-variants as C
 use Rattle.filter.specs.Picture.{Picture}
@@ -20,9 +21,10 @@ use Rattle.text.specs.declared.ReadAnswer.the-variants.{Done, Line, Records}
 use Rattle.lines.specs.Lines.{readingIn, listIn, answerIn, layersIn}
 use Rattle.lines.proofs.Counted.{answer-some, render-bytes}
 use Rattle.text.specs.declared.Reading.{Reading}
-use Rattle.text_print.specs.Output.{okText, refusedText}
+use Rattle.text_print.specs.Output.{inSrgb, okText, refusedText}
 use Rattle.text_print.specs.Code.{Put}
-use Rattle.text_answer.specs.Answer.{lastLayer, answerText, sheetText, readText, readingText, printedOf}
+use Rattle.text_answer.specs.Answer.{lastLayer, lastSpace, answerText, sheetText, readText, readingText, printedOf}
+use Rattle.text_answer.specs.Code.{answerFrom}
 use Rattle.text_answer.proofs.LastLayer.{last-read}
 
 -- an answer
@@ -48,12 +50,13 @@ module _ (s : List ℕ) (w h n : ℕ) (src d : List ℕ) (a : Answer) (steps : n
   pub drawn-some : accepted? a ≡ true → 0 < n
   drawn-some t = omega (arith, steps, answer-some F.Sheet s w h C.Render src d (replicate (2 * size w h) 0) (ap accepted? (sym is) ∙ t))
 
-  pub drawn-text : (d′ : List ℕ) → d′ ≡ layersIn a F.Sheet s C.Render w h src d → answerText a w h (read w h d′ ((n - 1) * size w h)) ≡ sheetText s w h n src
+  pub drawn-text : (d′ : List ℕ) → d′ ≡ layersIn a F.Sheet s C.Render w h src d → (q : Space) → q ≡ lastSpace s n → answerFrom a q w h n d′ ≡ sheetText s w h n src
   unfolding sheetText
-  drawn-text d′ e =
-      answer-same a w h (read w h d′ ((n - 1) * size w h)) (lastLayer s w h n src)
-      (λ t. last-read w h (listIn F.Sheet s) n src d′ (drawn-some t) (e ∙ rw steps (render-bytes F.Sheet s w h a src d t)))
-      ∙ ap (λ (x : Answer). answerText x w h (lastLayer s w h n src)) (is ∙ ap (λ (l : List ℕ). answerIn F.Sheet s C.Render w h src l (replicate (2 * size w h) 0)) zeros)
+  drawn-text d′ e q f =
+      ap (λ (x : Space). answerFrom a x w h n d′) f
+      ∙ answer-same a w h (inSrgb (lastSpace s n) (read w h d′ ((n - 1) * size w h))) (inSrgb (lastSpace s n) (lastLayer s w h n src))
+      (λ t. ap (inSrgb (lastSpace s n)) (last-read w h (listIn F.Sheet s) n src d′ (drawn-some t) (e ∙ rw steps (render-bytes F.Sheet s w h a src d t))))
+      ∙ ap (λ (x : Answer). answerText x w h (inSrgb (lastSpace s n) (lastLayer s w h n src))) (is ∙ ap (λ (l : List ℕ). answerIn F.Sheet s C.Render w h src l (replicate (2 * size w h) 0)) zeros)
 
 -- a reading
 pub reading-line : (s : List ℕ) (r : Reading) (n : ℕ) (a : ReadAnswer) → a ≡ Line n → refusedText 15 n ≡ readingText s r a

@@ -3,16 +3,18 @@ use mathlib.Core.Bool.{cond}
 use mathlib.Core.List.{List}
 use Prim.Native.Nat.{ℕ, _-_, _*_}
 use lib.ListN.{take, replicate}
+use Rattle.pixel.specs.declared.Space as S
 use Rattle.filter.specs.declared.Answer as A
 use Rattle.filter.specs.declared.Call.the-variants.{Render}
 use Rattle.filter.specs.Picture.{Picture}
 use Rattle.filter.specs.Bytes.{size, layersOf}
+use Rattle.filter.specs.Steps.{stepAt}
 use Rattle.filter.specs.Answers.{numberOf, placeOf, accepted?}
 use Rattle.text.specs.declared.Form.the-variants as F
 use Rattle.text.specs.declared.ReadAnswer.{ReadAnswer}
 use Rattle.text.specs.declared.ReadAnswer.the-variants.{Done, Line, Records}
 use Rattle.text.specs.declared.Reading.{Reading}
-use Rattle.text_print.specs.Output.{okText, refusedText}
+use Rattle.text_print.specs.Output.{inSrgb, okText, refusedText}
 use Rattle.lines.specs.Lines.{readingIn, listIn, answerIn}
 
 -- a full render of the text's n steps on the source src, with a workspace and a scratch buffer of the right lengths
@@ -22,6 +24,10 @@ answered s w h n src = answerIn F.Sheet s Render w h src (replicate (n * size w 
 abbrev pub lastLayer : List ℕ → ℕ → ℕ → ℕ → List ℕ → Picture
 lastLayer s w h n src = layersOf w h (listIn F.Sheet s) n src (n - 1)
 
+-- "A layer is kept in its step's space"
+abbrev pub lastSpace : List ℕ → ℕ → S.Space
+lastSpace s n = stepAt (listIn F.Sheet s) (n - 1) .space
+
 -- no answer is longer: `ok` and sixteen rows of sixteen pixels, each line with its line feed
 abbrev pub longest : ℕ
 longest = 2371
@@ -30,8 +36,9 @@ longest = 2371
 unfoldable pub answerText : A.Answer → ℕ → ℕ → Picture → List ℕ
 answerText a w h p = cond (accepted? a) (okText w h p) (refusedText (numberOf a) (placeOf a))
 
+-- "`sheet` prints the last layer in sRGB"
 unfoldable pub sheetText : List ℕ → ℕ → ℕ → ℕ → List ℕ → List ℕ
-sheetText s w h n src = answerText (answered s w h n src) w h (lastLayer s w h n src)
+sheetText s w h n src = answerText (answered s w h n src) w h (inSrgb (lastSpace s n) (lastLayer s w h n src))
 
 -- the sheet on the pixels of its rows
 abbrev pub readText : List ℕ → Reading → List ℕ

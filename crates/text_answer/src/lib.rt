@@ -3,6 +3,7 @@ use filter::Answer;
 use filter::Call;
 use filter::Sheet;
 use lines::draw_lines;
+use pixel::Space;
 use plan::answers::is_accepted;
 use plan::answers::number;
 use plan::answers::place;
@@ -10,6 +11,7 @@ use plan::sizes::picture_size;
 use text::Form;
 use text::ReadAnswer;
 use text::Reading;
+use text::reader::last_space;
 use text::reader::scan;
 use text_print::digits::put_word;
 use text_print::lines::put_ok;
@@ -27,8 +29,8 @@ ghost use Rattle.text.specs.declared.Form.the-variants as F;
 ghost use Rattle.text_step.specs.Many.{stored};
 ghost use Rattle.lines.specs.Lines.{readingIn, answerIn, layersIn};
 ghost use Rattle.text_print.specs.Code.{Put};
-ghost use Rattle.text_answer.specs.Answer.{longest, answerText, sheetText, readText, readingText, printedOf};
-ghost use Rattle.text_answer.specs.Code.{Within};
+ghost use Rattle.text_answer.specs.Answer.{longest, lastSpace, sheetText, readText, readingText, printedOf};
+ghost use Rattle.text_answer.specs.Code.{Within, answerFrom};
 
 // No answer is longer: `ok` and sixteen rows of sixteen pixels.
 pub const LONGEST: usize = 2371;
@@ -64,22 +66,23 @@ fn last_layer(width: usize, height: usize, count: usize, workspace: &[u8]) -> &[
     &workspace[from..]
 }
 
-// The last of `count` layers, or the refusal.
+// The last of `count` layers, which is kept in `space`, or the refusal.
 fn print_answer(
     answer: Answer,
     width: usize,
     height: usize,
     count: usize,
+    space: Space,
     workspace: &[u8],
     out: &mut [u8],
 ) -> usize
     requires { ⌜ (width ≤ longestTextSide) × (height ≤ longestTextSide) × (length (now workspace) ≡ count * size width height) × (length (now out) ≡ longest) ⌝ }
     requires { ⌜ (accepted? answer ≡ true → 0 < count) ⌝ }
-    ensures { λ r. ⌜ Put (answerText answer width height (picture width height (now (workspace .entry)) ((count - 1) * size width height))) 0 (now (out .entry)) (now (out .exit)) r ⌝ }
+    ensures { λ r. ⌜ Put (answerFrom answer space width height count (now (workspace .entry))) 0 (now (out .entry)) (now (out .exit)) r ⌝ }
 {
     if is_accepted(answer) {
         let layer = last_layer(width, height, count, workspace);
-        return put_ok(out, 0, width, height, layer);
+        return put_ok(out, 0, width, height, layer, space);
     }
     put_refused(out, 0, number(answer) as usize, place(answer))
 }
@@ -90,16 +93,17 @@ fn print_drawn(
     width: usize,
     height: usize,
     count: usize,
+    space: Space,
     source: &[u8],
     workspace: &mut [u8],
     out: &mut [u8],
 ) -> usize
     requires { ⌜ (width ≤ longestTextSide) × (height ≤ longestTextSide) × (count ≡ readingIn F.Sheet (now text) .count) ⌝ }
-    requires { ⌜ (now workspace ≡ replicate (count * size width height) 0) × (length (now out) ≡ longest) ⌝ }
+    requires { ⌜ (now workspace ≡ replicate (count * size width height) 0) × (length (now out) ≡ longest) × (space ≡ lastSpace (now text) count) ⌝ }
     ensures { λ r. ⌜ Put (sheetText (now (text .entry)) width height count (now (source .entry))) 0 (now (out .entry)) (now (out .exit)) r ⌝ }
 {
     let answer = draw(text, width, height, source, workspace);
-    print_answer(answer, width, height, count, &workspace[..], out)
+    print_answer(answer, width, height, count, space, &workspace[..], out)
 }
 
 fn print_sheet(
@@ -107,16 +111,37 @@ fn print_sheet(
     width: usize,
     height: usize,
     count: usize,
+    space: Space,
     source: &[u8],
     out: &mut [u8],
 ) -> usize
     requires { ⌜ (width ≤ longestTextSide) × (height ≤ longestTextSide) × (count ≡ readingIn F.Sheet (now text) .count) ⌝ }
-    requires { ⌜ (count ≤ mostSteps) × (length (now out) ≡ longest) ⌝ }
+    requires { ⌜ (count ≤ mostSteps) × (length (now out) ≡ longest) × (space ≡ lastSpace (now text) count) ⌝ }
     ensures { λ r. ⌜ Put (sheetText (now (text .entry)) width height count (now (source .entry))) 0 (now (out .entry)) (now (out .exit)) r ⌝ }
 {
     let mut workspace = [0u8; Sheet::STEPS * Sheet::TEXT_PICTURE];
     let n = count * picture_size(width, height);
-    print_drawn(text, width, height, count, source, &mut workspace[..n], out)
+    print_drawn(
+        text,
+        width,
+        height,
+        count,
+        space,
+        source,
+        &mut workspace[..n],
+        out,
+    )
+}
+
+// The working space of the text's last step. A text without steps is refused: there it is that of a blank step.
+fn space_of(text: &[u8], from: usize, count: usize) -> Space
+    requires { ⌜ (from ≡ readingIn F.Sheet (now text) .from) × (count ≡ readingIn F.Sheet (now text) .count) ⌝ }
+    ensures { λ r. ⌜ r ≡ lastSpace (now (text .entry)) count ⌝ }
+{
+    if count == 0 {
+        return Space::Linear;
+    }
+    last_space(Form::Sheet, text, from, count)
 }
 
 fn print_read(text: &[u8], reading: Reading, out: &mut [u8]) -> usize
@@ -127,8 +152,9 @@ fn print_read(text: &[u8], reading: Reading, out: &mut [u8]) -> usize
     let height = reading.height;
     let count = reading.count;
     let pixels = reading.pixels;
+    let space = space_of(text, reading.from, count);
     let n = picture_size(width, height);
-    print_sheet(text, width, height, count, &pixels[..n], out)
+    print_sheet(text, width, height, count, space, &pixels[..n], out)
 }
 
 fn print_reading(text: &[u8], reading: Reading, out: &mut [u8]) -> usize

@@ -7,14 +7,16 @@ use native.Mathlib.Nat.{mul-le-mul-right, add-mul}
 use lib.ListN.{length, length-append}
 use Rattle.text_field.specs.Split.{join}
 use Rattle.pixel.specs.declared.Pixel.{Pixel}
-use Rattle.pixel.specs.Bytes.{pixelAt}
+use Rattle.pixel.specs.declared.Space.{Space}
+use Rattle.pixel.specs.declared.Space.the-variants.{Srgb}
+use Rattle.pixel.specs.Convert.{converted}
 use Rattle.filter.specs.Picture.{Picture}
 use Rattle.filter.specs.Bytes.{size, read, concat}
 use Rattle.filter.proofs.Contents.{read-pixel}
 use Rattle.filter.proofs.Concat.{concat-length}
 use Rattle.text_print.specs.Digits.{decimal, hexPixel}
-use Rattle.text_print.specs.Output.{okWord, refusedWord, rowWord, line, listed, rowFields, rowLines, okText, refusedText}
-use Rattle.text_print.specs.Code.{Put}
+use Rattle.text_print.specs.Output.{okWord, refusedWord, rowWord, line, listed, rowFields, rowLines, inSrgb, okText, refusedText}
+use Rattle.text_print.specs.Code.{Put, rowFrom}
 use Rattle.text_print.proofs.Puts.{put-then, put-as}
 use Rattle.text_print.proofs.Decimals.{hex-length}
 
@@ -64,21 +66,21 @@ module _ (w : ℕ) (row : ℕ → Pixel) where
 pub row-end : (w h y : ℕ) → y < h → 4 * (y * w) + 4 * w ≤ size w h
 row-end w h y l = omega (arith, mul-le-mul-right w l, add-mul y 1 w)
 
-module _ (w h : ℕ) (d : List ℕ) where
+module _ (w h : ℕ) (d : List ℕ) (s : Space) where
   abbrev pub rows : ℕ → List ℕ
-  rows y = line (rowFields w (λ x. read w h d 0 x y))
+  rows y = line (rowFields w (λ x. inSrgb s (read w h d 0) x y))
 
   pub rows-length : (y : ℕ) → length (rows y) ≡ 9 * w + 4
-  rows-length y = row-length w (λ x. read w h d 0 x y)
+  rows-length y = row-length w (λ x. inSrgb s (read w h d 0) x y)
 
-  pub row-read : (y : ℕ) → y < h → line (rowFields w (λ x. pixelAt d (4 * (y * w) + 4 * x))) ≡ rows y
+  pub row-read : (y : ℕ) → y < h → line (rowFields w (rowFrom s d (4 * (y * w)))) ≡ rows y
   unfolding rowFields
   row-read y l = ap (λ (fs : List (List ℕ)). line (rowWord ∷ fs)) (listed-same _ _ w each)
     where
-      each : (x : ℕ) → x < w → hexPixel (pixelAt d (4 * (y * w) + 4 * x)) ≡ hexPixel (read w h d 0 x y)
+      each : (x : ℕ) → x < w → hexPixel (rowFrom s d (4 * (y * w)) x) ≡ hexPixel (inSrgb s (read w h d 0) x y)
       each x k =
           let e : 4 * (y * w) + 4 * x ≡ 0 + 4 * (y * w + x) = omega arith in
-          ap hexPixel (rw e (sym (read-pixel w h d 0 x y k l)))
+          ap (λ (p : Pixel). hexPixel (converted s Srgb p)) (rw e (sym (read-pixel w h d 0 x y k l)))
 
 -- a picture's text
 pub lines-length : (w h : ℕ) (p : Picture) → length (rowLines w h p) ≡ h * (9 * w + 4)

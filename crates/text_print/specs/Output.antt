@@ -4,6 +4,9 @@ use Prim.Native.Nat.{ℕ, zero, suc}
 use Rattle.text_field.specs.Words.{bytes}
 use Rattle.text_field.specs.Split.{join}
 use Rattle.pixel.specs.declared.Pixel.{Pixel}
+use Rattle.pixel.specs.declared.Space as S
+use Rattle.pixel.specs.declared.Space.the-variants.{Srgb}
+use Rattle.pixel.specs.Convert.{converted}
 use Rattle.filter.specs.Picture.{Picture}
 use Rattle.filter.specs.Bytes.{concat}
 use Rattle.text_print.specs.Digits.{decimal, hexPixel}
@@ -34,6 +37,10 @@ rowFields w row = rowWord ∷ listed (λ x. hexPixel (row x)) w
 -- the rows of a picture, top to bottom
 unfoldable pub rowLines : ℕ → ℕ → Picture → List ℕ
 rowLines w h p = concat (λ y. line (rowFields w (λ x. p x y))) h
+
+-- a picture that is kept in the space s, brought to sRGB
+abbrev pub inSrgb : S.Space → Picture → Picture
+inSrgb s p x y = converted s Srgb (p x y)
 
 -- "It prints `ok` and the last layer as `row` lines"
 unfoldable pub okText : ℕ → ℕ → Picture → List ℕ

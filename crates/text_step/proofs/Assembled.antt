@@ -5,9 +5,10 @@ use mathlib.Core.List.{List, [], _∷_, map}
 use Prim.Native.Nat.{ℕ, _+_, _≤_}
 use native.Mathlib.Omega.{arith}
 use lib.Dec.{leb, lit≤}
-use lib.ListN.{length, take, drop, replicate}
-use borrow.Author.Tests.{eq-eqb, ne-eqb, leb-true}
+use lib.ListN.{take, drop, replicate}
+use borrow.Author.Tests.{leb-true}
 use Rattle.window.proofs.Truths.{and-right, and-no}
+use Rattle.pixel.specs.declared.Space.{Space}
 use Rattle.filter.specs.declared.Input.the-variants.{Source, SourceAlpha}
 use Rattle.filter.specs.declared.Kind.{Kind}
 use Rattle.filter.specs.declared.Kind.the-variants as K
@@ -19,7 +20,8 @@ use Rattle.text_field.specs.Words.{bytes}
 use Rattle.text_field.specs.Field.{same, wholeOf}
 use Rattle.text_field.specs.declared.Amount.{Amount}
 use Rattle.text_step.specs.Many.{all, padded}
-use Rattle.text_step.specs.Kinds.{kindOf, bytesOf, sound?}
+use Rattle.text_step.specs.Spaces.{spaceAt, closed?}
+use Rattle.text_step.specs.Kinds.{kindOf, bytesOf, fieldsOf, sound?}
 use Rattle.text_step.specs.StepLine.{region?, regionOf, layerOf, inputOf, input?, wireOf, wiresOf, number?, operandOf, operandsOf, noStep, assembled, stepAs, stepOf}
 use Rattle.text_step.specs.declared.Reference.{Reference}
 use Rattle.text_step.specs.declared.Reference.the-variants.{To}
@@ -61,7 +63,7 @@ module _ (f : List ℕ) {a : Bool} (e : a ≡ same f (bytes "src")) where
   input-layer t g u x y = y ∙ rw (sym e ∙ t, sym g ∙ u, x)
 
 -- a sound kind has few fields
-pub sound-inputs : (k : Kind) (fs : List (List ℕ)) → sound? k fs ≡ true → inputsOf k ≤ 4
+sound-inputs : (k : Kind) (fs : List (List ℕ)) → sound? k fs ≡ true → inputsOf k ≤ 4
 sound-inputs (K.Flood r g b) fs e = lit≤ tt
 sound-inputs K.Offset fs e = lit≤ tt
 sound-inputs K.Blur fs e = lit≤ tt
@@ -74,7 +76,7 @@ sound-inputs (K.Composite o) fs e = lit≤ tt
 sound-inputs K.Arithmetic fs e = lit≤ tt
 sound-inputs (K.Merge n) fs e = leb-true n 4 (and-right (leb 1 n) (leb n 4) e)
 
-pub few-bytes : (k : Kind) → bytesOf k ≤ 3
+few-bytes : (k : Kind) → bytesOf k ≤ 3
 few-bytes (K.Flood r g b) = lit≤ tt
 few-bytes K.Offset = lit≤ tt
 few-bytes K.Blur = lit≤ tt
@@ -87,32 +89,40 @@ few-bytes (K.Composite o) = lit≤ tt
 few-bytes K.Arithmetic = lit≤ tt
 few-bytes (K.Merge n) = lit≤ tt
 
+pub few-fields : (k : Kind) (fs : List (List ℕ)) {s : Bool} {b i m : ℕ} → s ≡ sound? k fs → s ≡ true → b ≡ bytesOf k → i ≡ inputsOf k → (m ≡ numbersOf k) × (m ≤ 20) → (i ≤ 4) × (5 + b + i + m ≤ 32)
+few-fields k fs e h eb ei em =
+    let l : inputsOf k ≤ 4 = sound-inputs k fs (sym e ∙ h) in
+    (omega arith, omega (arith, few-bytes k, em .1))
+
 -- the parts together
-module _ (k : Kind) (t : Bool) (r : Region) (w : Wires) (o : Operands) {a b : Bool} (e : a ≡ (w .good && o .good)) (f : b ≡ (t && a)) where
-  pub assembled-good : b ≡ true → record { good = true; step = record { kind = k; region = r; inputs = w .wires; numbers = o .operands } } ≡ assembled k t r w o
+module _ (k : Kind) (t : Bool) (r : Region) (w : Wires) (o : Operands) (p : Space) {a b : Bool} (e : a ≡ (w .good && o .good)) (f : b ≡ (t && a)) where
+  pub assembled-good : b ≡ true → record { good = true; step = record { kind = k; region = r; inputs = w .wires; numbers = o .operands; space = p } } ≡ assembled k t r w o p
   unfolding assembled
   assembled-good g = rw (sym (ap (t &&_) e) ∙ sym f ∙ g)
 
-  pub assembled-bad : {s : StepLine} → b ≡ false → s ≡ noStep → s ≡ assembled k t r w o
+  pub assembled-bad : {s : StepLine} → b ≡ false → s ≡ noStep → s ≡ assembled k t r w o p
   unfolding assembled
   assembled-bad g d = d ∙ rw (sym (ap (t &&_) e) ∙ sym f ∙ g)
 
 -- the line of a kind
+needed : (k : Kind) {b i m n : ℕ} → b ≡ bytesOf k → i ≡ inputsOf k → m ≡ numbersOf k → n ≡ 5 + b + i + m → n ≡ fieldsOf k
+needed k eb ei em en = omega arith
+
 module _ (k : Kind) (fs : List (List ℕ)) {o : StepLine} {s : Bool} (e : s ≡ sound? k fs) where
   pub as-unsound : s ≡ false → o ≡ noStep → o ≡ stepAs k fs
   unfolding stepAs
   as-unsound h d = d ∙ rw (sym e ∙ h)
 
-  module _ {n b i m : ℕ} (l : n ≡ length fs) (eb : b ≡ bytesOf k) (ei : i ≡ inputsOf k) (em : m ≡ numbersOf k) where
-    pub as-long : (n ≡ 5 + b + i + m → ⊥) → o ≡ noStep → o ≡ stepAs k fs
+  module _ {b i m n : ℕ} (eb : b ≡ bytesOf k) (ei : i ≡ inputsOf k) (em : m ≡ numbersOf k) (en : n ≡ 5 + b + i + m) {c : Bool} (ec : c ≡ closed? n fs) where
+    pub as-open : c ≡ false → o ≡ noStep → o ≡ stepAs k fs
     unfolding stepAs
-    as-long h d = d ∙ rw (ne-eqb (length fs) (5 + bytesOf k + inputsOf k + numbersOf k) (λ q. h (omega (arith, q))), and-no (sound? k fs))
+    as-open h d = d ∙ rw (sym (needed k eb ei em en), sym ec ∙ h, and-no (sound? k fs))
 
-    pub as-good : {t : Bool} {r : Region} {w : Wires} {p : Operands} → s ≡ true → n ≡ 5 + b + i + m
-        → t ≡ region? fs → r ≡ regionOf fs → w ≡ wiresOf (take i (drop (5 + b) fs)) → p ≡ operandsOf (take m (drop (5 + b + i) fs)) → o ≡ assembled k t r w p → o ≡ stepAs k fs
+    pub as-good : {t : Bool} {r : Region} {w : Wires} {v : Operands} {p : Space} → s ≡ true → c ≡ true
+        → t ≡ region? fs → r ≡ regionOf fs → w ≡ wiresOf (take i (drop (5 + b) fs)) → v ≡ operandsOf (take m (drop (5 + b + i) fs)) → p ≡ spaceAt fs n
+        → o ≡ assembled k t r w v p → o ≡ stepAs k fs
     unfolding stepAs
-    as-good g h x y z v d =
-        d ∙ rw (x, y, z, v, eb, ei, em, sym e ∙ g, eq-eqb (length fs) (5 + bytesOf k + inputsOf k + numbersOf k) (omega arith))
+    as-good g h x y z v u d = d ∙ rw (x, y, z, v, u, sym (needed k eb ei em en), sym ec ∙ h, sym e ∙ g, eb, ei, em)
 
 -- a step's line by its kind
 module _ (fs : List (List ℕ)) {t : Named} {o : StepLine} (e : t ≡ kindOf fs) where

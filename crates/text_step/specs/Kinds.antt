@@ -1,16 +1,18 @@
 -- The kinds of step by their words, and the fields that each has. Assumes nothing.
-use mathlib.Core.Bool.{Bool, true, false, _&&_}
+use mathlib.Core.Bool.{Bool, true, false, cond, _&&_}
 use mathlib.Core.List.{List, [], _∷_}
-use Prim.Native.Nat.{ℕ, _-_}
+use Prim.Native.Nat.{ℕ, _+_, _-_}
 use lib.Dec.{leb}
 use lib.ListN.{length, getD}
 use Rattle.pixel.specs.declared.Operator.{Operator}
 use Rattle.pixel.specs.declared.Operator.the-variants as O
 use Rattle.filter.specs.declared.Kind.{Kind}
 use Rattle.filter.specs.declared.Kind.the-variants as K
+use Rattle.filter.specs.Steps.{inputsOf, numbersOf}
 use Rattle.text_field.specs.Words.{bytes}
 use Rattle.text_field.specs.Field.{same, wholeOf, byteOf, given, valueIn}
 use Rattle.text_field.specs.declared.Amount.{Amount}
+use Rattle.text_step.specs.Spaces.{space?}
 use Rattle.text_step.specs.declared.Named.{Named}
 use Rattle.text_step.specs.declared.Named.the-variants.{Known, Unknown}
 
@@ -58,9 +60,13 @@ byteField fs i = byteOf (wholeOf (getD fs i []))
 abbrev pub byteAt : List (List ℕ) → ℕ → ℕ
 byteAt fs i = valueIn (byteField fs i)
 
--- the kind of a step line: its word, and for flood its bytes, for merge the count of the fields after the region
+-- a merge's inputs are the fields after the region, without the last where that is a working space: no input is so called
+unfoldable pub mergeInputs : List (List ℕ) → ℕ
+mergeInputs fs = cond (space? (getD fs (length fs - 1) [])) (length fs - 6) (length fs - 5)
+
+-- the kind of a step line: its word, and for flood its bytes, for merge the count of its inputs
 unfoldable pub kindOf : List (List ℕ) → Named
-kindOf fs = firstNamed (getD fs 0 []) (kinds (byteAt fs 5) (byteAt fs 6) (byteAt fs 7) (length fs - 5))
+kindOf fs = firstNamed (getD fs 0 []) (kinds (byteAt fs 5) (byteAt fs 6) (byteAt fs 7) (mergeInputs fs))
 
 -- how many bytes stand before a kind's inputs and numbers ("R, G, B bytes; opacity")
 abbrev pub bytesOf : Kind → ℕ
@@ -75,6 +81,10 @@ bytesOf K.LuminanceToAlpha = 0
 bytesOf (K.Composite o) = 0
 bytesOf K.Arithmetic = 0
 bytesOf (K.Merge n) = 0
+
+-- how many fields a kind has: word and region, bytes, inputs, numbers
+abbrev pub fieldsOf : Kind → ℕ
+fieldsOf k = 5 + bytesOf k + inputsOf k + numbersOf k
 
 -- "a flood byte above 255 .. is 15" and "Merge without 1 to 4 inputs is 15 here"
 abbrev pub sound? : Kind → List (List ℕ) → Bool

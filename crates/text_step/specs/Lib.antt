@@ -1,4 +1,5 @@
--- The line of a step: several fields, kinds, and the step.
+-- The line of a step: several fields, its working space, kinds, and the step.
 pub mod Many
+pub mod Spaces
 pub mod Kinds
 pub mod StepLine

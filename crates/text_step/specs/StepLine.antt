@@ -1,9 +1,9 @@
--- A step's line, as its fields: "A step is its kind, x, y, width, height, inputs, numbers". Assumes nothing.
+-- A step's line, as its fields: "A step is its kind, x, y, width, height, inputs, numbers", and its working space. Assumes nothing.
 use mathlib.Core.Bool.{Bool, true, false, cond, _&&_}
 use mathlib.Core.List.{List, [], _∷_, map}
 use Prim.Native.Nat.{ℕ, _+_}
-use lib.Dec.{eqb}
-use lib.ListN.{length, getD, take, drop, replicate}
+use lib.ListN.{getD, take, drop, replicate}
+use Rattle.pixel.specs.declared.Space.{Space}
 use Rattle.filter.specs.declared.Region.{Region}
 use Rattle.filter.specs.declared.Input.the-variants.{Source, SourceAlpha, Layer}
 use Rattle.filter.specs.declared.Wire.{Wire}
@@ -17,7 +17,8 @@ use Rattle.text_field.specs.declared.Amount.the-variants.{Is, Not}
 use Rattle.text_field.specs.declared.Numeral.{Numeral}
 use Rattle.text_field.specs.declared.Numeral.the-variants.{Reads, Malformed}
 use Rattle.text_step.specs.Many.{all, padded}
-use Rattle.text_step.specs.Kinds.{kindOf, bytesOf, sound?}
+use Rattle.text_step.specs.Spaces.{spaceAt, closed?}
+use Rattle.text_step.specs.Kinds.{kindOf, bytesOf, fieldsOf, sound?}
 use Rattle.text_step.specs.declared.Reference.{Reference}
 use Rattle.text_step.specs.declared.Reference.the-variants.{To, Nowhere}
 use Rattle.text_step.specs.declared.Named.{Named}
@@ -87,17 +88,18 @@ operandsOf fs = record { good = all number? fs; operands = cond (all number? fs)
 abbrev pub noStep : L.StepLine
 noStep = record { good = false; step = blankStep }
 
-unfoldable pub assembled : Kind → Bool → Region → Wires → Operands → L.StepLine
-assembled k b r w o =
-    cond (b && (w .good && o .good)) (record { good = true; step = record { kind = k; region = r; inputs = w .wires; numbers = o .operands } }) noStep
+unfoldable pub assembled : Kind → Bool → Region → Wires → Operands → Space → L.StepLine
+assembled k b r w o s =
+    cond (b && (w .good && o .good)) (record { good = true; step = record { kind = k; region = r; inputs = w .wires; numbers = o .operands; space = s } }) noStep
 
--- the line of a kind: five fields, the kind's bytes, inputs and numbers, and no more
+-- the line of a kind: five fields, the kind's bytes, inputs and numbers, and no more than a working space
 unfoldable pub stepAs : Kind → List (List ℕ) → L.StepLine
 stepAs k fs =
-    cond (sound? k fs && eqb (length fs) (5 + bytesOf k + inputsOf k + numbersOf k))
+    cond (sound? k fs && closed? (fieldsOf k) fs)
     (assembled k (region? fs) (regionOf fs)
     (wiresOf (take (inputsOf k) (drop (5 + bytesOf k) fs)))
-    (operandsOf (take (numbersOf k) (drop (5 + bytesOf k + inputsOf k) fs))))
+    (operandsOf (take (numbersOf k) (drop (5 + bytesOf k + inputsOf k) fs)))
+    (spaceAt fs (fieldsOf k)))
     noStep
 
 abbrev pub stepNamed : Named → List (List ℕ) → L.StepLine

@@ -1,5 +1,6 @@
 // The kinds by their words.
 use super::Named;
+use super::spaces::is_space;
 use filter::Kind;
 use pixel::Operator;
 use text_field::lines::equals;
@@ -8,13 +9,13 @@ use text_field::wholes::byte_in;
 use text_field::wholes::is_byte;
 use text_field::wholes::whole;
 use window::both;
+use window::less;
 ghost use mathlib.Core.Path.{_≡_};
 ghost use mathlib.Core.Bool.{_&&_};
-ghost use Prim.Native.Nat.{_-_};
 ghost use lib.ListN.{length};
 ghost use Rattle.text_field.specs.Split.{split};
 ghost use Rattle.text_field.specs.Field.{same, given};
-ghost use Rattle.text_step.specs.Kinds.{named, kinds, firstNamed, kindOf, bytesOf, byteField, byteAt, sound?};
+ghost use Rattle.text_step.specs.Kinds.{named, kinds, firstNamed, kindOf, bytesOf, byteField, byteAt, mergeInputs, sound?};
 
 // The kind where the field is its word.
 fn or(f: &[u8], word: &[u8], kind: Kind, other: Named) -> Named
@@ -62,14 +63,15 @@ fn byte_given(line: &[u8], i: usize) -> bool
     is_byte(whole(field(line, i)))
 }
 
-// How many of n fields stand after the region.
-fn after_region(n: usize) -> usize
-    ensures { λ o. ⌜ o ≡ n - 5 ⌝ }
+// How many inputs a merge of n fields has: those after the region, without a working space.
+fn merge_inputs(line: &[u8], n: usize) -> usize
+    requires { ⌜ n ≡ length (split 9 (now line)) ⌝ }
+    ensures { λ o. ⌜ o ≡ mergeInputs (split 9 (now (line .entry))) ⌝ }
 {
-    if n < 5 {
-        return 0;
+    if is_space(field(line, less(n, 1))) {
+        return less(n, 6);
     }
-    n - 5
+    less(n, 5)
 }
 
 // The kind of a line of n fields.
@@ -82,7 +84,7 @@ pub fn kind_of(line: &[u8], n: usize) -> Named
         byte_at(line, 5),
         byte_at(line, 6),
         byte_at(line, 7),
-        after_region(n),
+        merge_inputs(line, n),
     )
 }
 

@@ -1,5 +1,6 @@
 // The line of one step: RULES 9.
 mod kinds;
+mod spaces;
 pub mod step_lines;
 
 use filter::Input;

@@ -7,6 +7,8 @@ use super::Wires;
 use super::kinds::byte_count;
 use super::kinds::is_sound;
 use super::kinds::kind_of;
+use super::spaces::is_closed;
+use super::spaces::space_at;
 use filter::Input;
 use filter::Kind;
 use filter::Operand;
@@ -14,6 +16,7 @@ use filter::Region;
 use filter::Step;
 use filter::Wire;
 use number::Number;
+use pixel::Space;
 use plan::steps::input_count;
 use plan::steps::number_count;
 use text_field::Amount;
@@ -157,8 +160,15 @@ fn no_step() -> StepLine
     }
 }
 
-fn assemble(kind: Kind, given: bool, region: Region, w: Wires, o: Operands) -> StepLine
-    ensures { λ s. ⌜ s ≡ assembled kind given region w o ⌝ }
+fn assemble(
+    kind: Kind,
+    given: bool,
+    region: Region,
+    w: Wires,
+    o: Operands,
+    space: Space,
+) -> StepLine
+    ensures { λ s. ⌜ s ≡ assembled kind given region w o space ⌝ }
 {
     if both(given, both(w.good, o.good)) {
         let inputs = w.wires;
@@ -170,6 +180,7 @@ fn assemble(kind: Kind, given: bool, region: Region, w: Wires, o: Operands) -> S
                 region,
                 inputs,
                 numbers,
+                space,
             },
         };
     }
@@ -187,7 +198,8 @@ fn step_as(line: &[u8], kind: Kind, n: usize) -> StepLine
     let bytes = byte_count(kind);
     let inputs = input_count(kind);
     let numbers = number_count(kind);
-    if n != 5 + bytes + inputs + numbers {
+    let fields = 5 + bytes + inputs + numbers;
+    if !is_closed(line, n, fields) {
         return no_step();
     }
     assemble(
@@ -196,6 +208,7 @@ fn step_as(line: &[u8], kind: Kind, n: usize) -> StepLine
         region_of(line),
         wires_of(line, 5 + bytes, inputs),
         operands_of(line, 5 + bytes + inputs, numbers),
+        space_at(line, fields),
     )
 }
 

@@ -11,7 +11,7 @@
 //! `a` its alphas, `-` nothing. A text that is not of the form has one line: name, `text`, 15, line.
 
 use super::listed::listed;
-use super::{case, picture, Case};
+use super::{case, picture, style, Case};
 use crate::check::{side_is_wrong, Answer};
 use crate::fault::Fault;
 use crate::print;
@@ -89,7 +89,7 @@ fn widen(random: &mut Random, case: &mut Case) {
             step.region = Region { x: 0, y: 0, width, height };
         }
     }
-    case.steps = print::steps(&steps, random.below(5)).into_bytes();
+    case.steps = print::steps(&steps, style(random)).into_bytes();
     let (x, y) = (random.below(width), random.below(height));
     case.rect = Region { x, y, width: 1 + random.below(width - x), height: 1 + random.below(height - y) };
 }

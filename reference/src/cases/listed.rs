@@ -1,12 +1,19 @@
-//! Calls whose lines are worked out by hand: the examples of RULES 11, halves between two units, and each refusal. The lines: tests/calls.expected.
+//! Calls whose lines are worked out by hand: the examples of RULES 11, halves between two units, each refusal, and linear
+//! light. The lines: tests/calls.expected.
 
 use super::calls::Entry;
 use super::Case;
+use crate::print::in_srgb;
 use crate::step::Region;
 
 /// A call with right buffers: a transparent source, 00000009 in every pixel of the workspace, 5 in every byte of the
-/// scratch, the whole canvas named, the last layer printed. Lines are written with spaces for tabs.
+/// scratch, the whole canvas named, the last layer printed. Lines are written with spaces for tabs, and read with `srgb`.
 fn call(name: &str, show: char, width: usize, height: usize, lines: &str) -> Entry {
+    as_written(name, show, width, height, &in_srgb(lines))
+}
+
+/// The same of lines as they stand.
+fn as_written(name: &str, show: char, width: usize, height: usize, lines: &str) -> Entry {
     let (count, pixels) = (lines.lines().count(), width * height);
     let case = Case {
         width,
@@ -129,6 +136,39 @@ fn neighbourhoods() -> Vec<Entry> {
     ]
 }
 
+/// Lines as they stand, on a row of pixels.
+fn spaced(name: &str, source: &[u32], lines: &str) -> Entry {
+    let mut call = as_written(name, 'x', source.len(), 1, lines);
+    call.case.source = bytes(source);
+    call
+}
+
+const TWO_SPACES: &str = "flood 0 0 1 1 255 128 0 0.5 srgb\noffset 0 0 1 1 src 0 0\nmerge 0 0 1 1 1 0";
+
+/// Linear light. 255·f(i/255) of RULES 4.5 is, to linear: 32 → 3.68, 64 → 13.07, 128 → 55.04, 192 → 134.41, 196 → 140.76,
+/// 200 → 147.28, and to sRGB: 4 → 33.61, 12 → 61.26, 13 → 63.82, 55 → 127.95, 56 → 129.02, 134 → 191.74; 0 and 255 stay.
+fn linear_light() -> Vec<Entry> {
+    let held = |name, space| {
+        let call = spaced(name, &[0x4080c0ff], &format!("{TWO_SPACES}{space}\n"));
+        call.with(|call| call.case.workspace = bytes(&[0x80400080, 9, 9]))
+    };
+    vec![
+        // 80400080; 64 at 128 is 128 straight, 55, and (55·128 + 127) ÷ 255 = 28.
+        spaced("linear flood", &[0], "flood 0 0 1 1 255 128 0 0.5\n"),
+        // Alpha 26: 200 and 128 are 20 and 13; straight 196 and 128; 141 and 55; 14 and 6. 200 itself would become 147, 15.
+        spaced("linear twice", &[0], "flood 0 0 1 1 200 128 0 0.1 linear\n"),
+        // 255 and 0 stay, so the bytes are those of the boxes: two wide, two wide, three wide.
+        // Red 128 255 128 0, 192 192 64 0, 128 149 85 21; green 0 0 128 255, 0 64 192 128, 21 85 128 107; alpha 149 234 213 128.
+        spaced("linear blur", &[0xff0000ff, 0xff0000ff, 0x00ff00ff, 0x00ff00ff], "blur 0 0 4 1 src 1 0\n"),
+        // 128 64 32 is 55 13 4, and back 128 64 34. At alpha 64, straight 255 128 64: 64 14 3; straight 255 56 12: 64 32 15.
+        spaced("linear back", &[0x804020ff, 0x40201040, 0], "offset 0 0 3 1 src 1 0\noffset 0 0 3 1 0 -1 0 srgb\n"),
+        // 0d3786ff under 801c0080: (128·255 + 13·127 + 127) ÷ 255 = 134, (28·255 + 55·127 + 127) ÷ 255 = 55, 67, 255.
+        held("linear merge", ""),
+        // 4080c0ff under 80400080: (128·255 + 64·127 + 127) ÷ 255 = 160, (64·255 + 128·127 + 127) ÷ 255 = 128, 96, 255.
+        held("srgb merge", " srgb"),
+    ]
+}
+
 /// Two steps on 2 by 2 pixels, the second as given.
 fn second(name: &str, step: &str) -> Entry {
     let mut call = call(name, '-', 2, 2, &format!("lumalpha 0 0 2 2 src\n{step}\n"));
@@ -225,6 +265,6 @@ fn long() -> Vec<Entry> {
 }
 
 pub fn listed() -> Vec<Entry> {
-    let all = [pixels(), halves(), neighbourhoods(), sizes(), steps(), pixels_and_order(), long()];
+    let all = [pixels(), halves(), neighbourhoods(), sizes(), steps(), pixels_and_order(), long(), linear_light()];
     all.into_iter().flatten().collect()
 }

@@ -8,8 +8,9 @@ pub mod spoil;
 pub mod texts;
 
 use crate::number::Number;
-use crate::print;
+use crate::print::{self, Style};
 use crate::random::Random;
+use crate::space::Space;
 use crate::step::{Input, Kind, Region, Step, KINDS, MOST_STEPS};
 
 /// What is handed to a renderer.
@@ -98,8 +99,11 @@ pub fn step(random: &mut Random, n: usize, width: usize, height: usize, wild: bo
         inputs: (0..inputs).map(|_| input(random, n, wild)).collect(),
         colour: if kind == Kind::Flood { [random.byte(), random.byte(), random.byte()] } else { [0; 3] },
         numbers,
+        space: random.pick(&BOTH),
     }
 }
+
+const BOTH: [Space; 2] = [Space::Srgb, Space::Linear];
 
 /// Makes the numbers of a matrix or an arithmetic step such that they show: most of them 0, or two that lie at an edge.
 /// A saturate's comes to lie where its coefficients are halves.
@@ -126,8 +130,15 @@ fn plain_numbers(random: &mut Random, kind: Kind, numbers: &mut [Number]) {
     }
 }
 
+/// The steps work in sRGB, in linear light, or some in one and some in the other.
 pub fn sheet(random: &mut Random, count: usize, width: usize, height: usize, wild: bool) -> Vec<Step> {
-    (0..count).map(|n| step(random, n, width, height, wild)).collect()
+    let spaces = random.pick(&[&BOTH[..1], &BOTH[..1], &BOTH[1..], &BOTH]);
+    (0..count).map(|n| Step { space: random.pick(spaces), ..step(random, n, width, height, wild) }).collect()
+}
+
+/// Steps written in any way.
+pub fn style(random: &mut Random) -> Style {
+    Style { places: random.below(5), named: random.word() }
 }
 
 /// Its new green is 1 with a coefficient of 107 units and 0 with 106: it shows how saturate rounds at 65,036 units.
@@ -213,7 +224,7 @@ pub fn case(random: &mut Random) -> Case {
         _ => {}
     }
     let steps = sheet(random, count, width, height, wild);
-    let mut text = print::steps(&steps, random.below(5)).into_bytes();
+    let mut text = print::steps(&steps, style(random)).into_bytes();
     if random.once_in(24) {
         texts::mutate(random, &mut text);
     }

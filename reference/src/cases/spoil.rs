@@ -3,7 +3,7 @@
 use crate::random::Random;
 
 /// Fields to put in another's place.
-const ODD_FIELDS: [&str; 46] = [
+const ODD_FIELDS: [&str; 52] = [
     "",
     "0",
     "00",
@@ -50,6 +50,12 @@ const ODD_FIELDS: [&str; 46] = [
     "1025",
     "9999",
     "10000",
+    "srgb",
+    "linear",
+    "sRGB",
+    "Linear",
+    "linearRGB",
+    "linear ",
 ];
 
 const PREFIXES: [&str; 7] = ["0", "+", "-", " ", "x", "1", "\0"];
@@ -93,8 +99,34 @@ const LINES: [&str; 12] = [
     "over\t0\t0\t1\t1\tsrc",
 ];
 
+/// What may stand after a step's numbers, and what may be mistaken for it.
+pub const ENDINGS: [&str; 16] = [
+    "",
+    "\tsrgb",
+    "\tlinear",
+    "\tsRGB",
+    "\tlinearRGB",
+    "\tLINEAR",
+    "\tauto",
+    "\t",
+    "\tsrgb\t",
+    "\t\tsrgb",
+    "\tsrgb\tsrgb",
+    "\tlinear\tsrgb",
+    "\tsrgb\tsrc",
+    "\tsrgb\t0",
+    " srgb",
+    "\tsrgb ",
+];
+
 /// The number of ways to change a text at a line.
-pub const LINE_WAYS: usize = 16 + LINES.len();
+pub const LINE_WAYS: usize = 17 + ENDINGS.len() + LINES.len();
+
+/// `srgb` before a line's last field.
+pub fn space_before_last(line: &mut Vec<u8>) {
+    let last = line.iter().rposition(|byte| *byte == b'\t').unwrap_or(line.len());
+    line.splice(last..last, *b"\tsrgb");
+}
 
 /// A text's lines changed in one way at one line, which is below their number.
 pub fn lines(lines: &mut Vec<Vec<u8>>, at: usize, way: usize) {
@@ -130,7 +162,9 @@ pub fn lines(lines: &mut Vec<Vec<u8>>, at: usize, way: usize) {
             let step = line.clone();
             (0..64).for_each(|_| lines.insert(at, step.clone()));
         }
-        _ => lines.insert(at, LINES[way - 16].into()),
+        16 => space_before_last(line),
+        _ if way < 17 + ENDINGS.len() => line.extend(ENDINGS[way - 17].as_bytes()),
+        _ => lines.insert(at, LINES[way - 17 - ENDINGS.len()].into()),
     }
 }
 
@@ -165,8 +199,9 @@ pub fn anywhere(random: &mut Random, text: &mut Vec<u8>) {
     match random.below(8) {
         0..=3 => {
             let fields: Vec<&[u8]> = all[at].split(|byte| *byte == b'\t').collect();
-            // Numbers come last.
-            let which = if random.once_in(2) { fields.len() - 1 } else { random.below(fields.len()) };
+            // Numbers and the space come last.
+            let late = fields.len().saturating_sub(1 + random.below(2));
+            let which = if random.once_in(2) { late } else { random.below(fields.len()) };
             let changed = field(fields[which], random.below(FIELD_WAYS));
             let mut fields = fields.clone();
             fields[which] = &changed;

@@ -1,20 +1,21 @@
 //! Texts for `sheet`: valid ones, refused ones, malformed ones, and junk.
 
-use crate::cases::{damage_picture, picture, sheet, spoil, step};
+use crate::cases::{damage_picture, picture, sheet, spoil, step, style};
 use crate::line::LONGEST_TEXT_SIDE;
-use crate::print;
+use crate::print::{self, Style};
 use crate::random::Random;
-use crate::step::{Step, KINDS, MOST_STEPS};
+use crate::space::Space;
+use crate::step::{Input, Kind, Region, Step, KINDS, MOST_INPUTS, MOST_STEPS};
 use crate::text::{EARLIER, LONGEST_TEXT};
 
 /// The example of RULES 9.9.
 pub const EXAMPLE: &str =
-    "canvas\t2\t1\nflood\t0\t0\t1\t1\t255\t0\t0\t0.5\nover\t0\t0\t2\t1\t0\tsrc\nrow\t0000ffff\t00000080\n";
+    "canvas\t2\t1\nflood\t0\t0\t1\t1\t255\t0\t0\t0.5\tsrgb\nover\t0\t0\t2\t1\t0\tsrc\tsrgb\nrow\t0000ffff\t00000080\n";
 
 /// A sheet and a picture as text.
-pub fn written(width: usize, height: usize, steps: &[Step], source: &[u8], places: usize) -> Vec<u8> {
+pub fn written(width: usize, height: usize, steps: &[Step], source: &[u8], style: Style) -> Vec<u8> {
     let rows = if width == 0 { "row\n".repeat(height) } else { print::rows(width, source) };
-    format!("canvas\t{width}\t{height}\n{}{rows}", print::steps(steps, places)).into_bytes()
+    format!("canvas\t{width}\t{height}\n{}{rows}", print::steps(steps, style)).into_bytes()
 }
 
 /// A well-formed text; a wild one may earn a refusal.
@@ -40,8 +41,7 @@ fn well_formed(random: &mut Random, wild: bool) -> Vec<u8> {
     if wild && random.once_in(4) {
         damage_picture(random, &mut source);
     }
-    let places = random.below(5);
-    written(width, height, &steps, &source, places)
+    written(width, height, &steps, &source, style(random))
 }
 
 /// Changes a text once or twice.
@@ -73,14 +73,34 @@ fn one_step(line: &[u8]) -> Vec<u8> {
     [b"canvas\t1\t1\n", line, b"\nrow\t20406080\n"].concat()
 }
 
-/// A step of the kind as a line, without its line feed.
+/// A step of the kind as a line, without a space and without its line feed.
 fn line_of(random: &mut Random, word: &str) -> Vec<u8> {
     loop {
         let step = step(random, 0, 1, 1, false);
         if step.kind.word() == word {
-            return print::step(&step, 0).trim_end_matches('\n').into();
+            return bare(step);
         }
     }
+}
+
+fn bare(step: Step) -> Vec<u8> {
+    let line = print::step(&Step { space: Space::Linear, ..step }, 0, Style::default());
+    line.trim_end_matches('\n').into()
+}
+
+/// Every kind, and merges of none to five, with every ending; and with the space before the last field.
+fn endings(random: &mut Random) -> Vec<Vec<u8>> {
+    let mut lines: Vec<Vec<u8>> = KINDS.iter().map(|(word, _)| line_of(random, word)).collect();
+    let region = Region { x: 0, y: 0, width: 1, height: 1 };
+    let merge = |inputs| Step { kind: Kind::Merge, region, inputs: vec![Input::Source; inputs], ..Step::BLANK };
+    lines.extend((0..=MOST_INPUTS + 1).map(|inputs| bare(merge(inputs))));
+    let each = |line: &Vec<u8>| {
+        let ends = spoil::ENDINGS.map(|ending| one_step(&[line, ending.as_bytes()].concat()));
+        let mut before = line.clone();
+        spoil::space_before_last(&mut before);
+        [ends.to_vec(), vec![one_step(&before)]].concat()
+    };
+    lines.iter().flat_map(each).collect()
 }
 
 /// Any text.
@@ -96,7 +116,7 @@ pub fn text(random: &mut Random) -> Vec<u8> {
         }
         24..=29 => {
             let word = random.pick(&KINDS).0;
-            let line = line_of(random, word);
+            let line = [line_of(random, word), random.pick(&spoil::ENDINGS[..3]).into()].concat();
             let changed = spoil::every_field(&line);
             one_step(&changed[random.below(changed.len())])
         }
@@ -110,7 +130,7 @@ pub fn text(random: &mut Random) -> Vec<u8> {
 }
 
 /// Texts that need little chance: the example with every field and line changed in every way, the ends of every limit,
-/// each kind with its fields changed in a third of the ways.
+/// each kind with every ending, and with its fields changed in a third of the ways.
 pub fn listed(random: &mut Random) -> Vec<Vec<u8>> {
     let mut all: Vec<Vec<u8>> =
         vec![EXAMPLE.into(), Vec::new(), b"\n".to_vec(), b"canvas".to_vec(), b"canvas\t0\t0\n".to_vec()];
@@ -122,12 +142,13 @@ pub fn listed(random: &mut Random) -> Vec<Vec<u8>> {
     }
     for count in [16, 17, MOST_STEPS - 1, MOST_STEPS, MOST_STEPS + 1] {
         let (steps, source) = (sheet(random, count, 2, 2, false), picture(random, 4));
-        all.push(written(2, 2, &steps, &source, 0));
+        all.push(written(2, 2, &steps, &source, Style::default()));
     }
     // The largest workspace: 65,536 bytes.
     let side = LONGEST_TEXT_SIDE;
     let (steps, source) = (sheet(random, MOST_STEPS, side, side, false), picture(random, side * side));
-    all.push(written(side, side, &steps, &source, 0));
+    all.push(written(side, side, &steps, &source, Style::default()));
+    all.extend(endings(random));
     let example = spoil::split(EXAMPLE.as_bytes());
     for at in 0..example.len() {
         for way in 0..spoil::LINE_WAYS {

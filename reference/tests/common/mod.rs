@@ -3,12 +3,18 @@
 
 use reference::check::Answer;
 use reference::fault::Fault;
+use reference::print::in_srgb;
 use reference::render::{redraw, render, Sheet};
 use reference::step::{Region, Step};
 use reference::text::steps_of;
 
-/// Step lines written with spaces for tabs.
+/// Step lines written with spaces for tabs, and read with `srgb`.
 pub fn steps(lines: &str) -> Vec<Step> {
+    as_written(&in_srgb(lines))
+}
+
+/// The same as they stand: linear where they name no space.
+pub fn as_written(lines: &str) -> Vec<Step> {
     steps_of(lines.replace(' ', "\t").as_bytes(), Fault::None).expect("well formed")
 }
 

@@ -5,10 +5,10 @@ use mathlib.Core.Logic.{⊎-elim}
 use native.Mathlib.Omega.{arith}
 use borrow.Author.Needs.{needs}
 use lib.ListN.{length}
-use Rattle.stage.specs.Buffers.{stands}
+use Rattle.stage.specs.Shown.{shown}
 use Rattle.stage.specs.Strip.{Strip}
 use Rattle.window.proofs.Numbers.{area-le}
-use Rattle.stage.proofs.Read.{stands-blank}
+use Rattle.stage.proofs.Shown.{shown-blank}
 use Rattle.draw_window.specs.Passes.{acrossOf}
 use Rattle.draw_window.proofs.Strips.{strip-none, reached-in, strip-area}
 use Rattle.filter.specs.Limits.{longestSide, mostPixels}
@@ -19,17 +19,17 @@ use Rattle.draw_blur.proofs.blur_across.Statement.{statement}
 use Rattle.draw_blur.proofs.blur_across.Tie as tie
 
 abbrev Inv-loop : tie.InvT-loop
-Inv-loop workspace source scratch₀ w h n input d left right top bottom width reach span places skip tile₀ sums₀ y₀ scratch tile sums y =
+Inv-loop workspace source scratch₀ w h n lens pairs input d left right top bottom width reach span places skip tile₀ sums₀ y₀ scratch tile sums y =
     (top ≤ y) × (y ≤ bottom) × (length tile ≡ 64 * longestSide) × (length sums ≡ 32) × (length scratch ≡ length scratch₀)
-    × Strip (acrossOf (blurs d) w (stands w h source workspace input)) 0 left right top y scratch
+    × Strip (acrossOf (blurs d) w (shown lens w h source workspace input)) 0 left right top y scratch
 
 abbrev μ-loop : tie.MeasureT-loop
-μ-loop workspace source scratch₀ w h n input d left right top bottom width reach span places skip tile₀ sums₀ y₀ scratch tile sums y = bottom - y
+μ-loop workspace source scratch₀ w h n lens pairs input d left right top bottom width reach span places skip tile₀ sums₀ y₀ scratch tile sums y = bottom - y
 
 -- what holds of the span
 module _ (g : tie.After-reached Inv-loop μ-loop) where
   abbrev s : tie.Start Inv-loop μ-loop
-  s = g .before .before .before .before .before
+  s = g .before .before .before .before .before .before
 
   span : (g .reached .result .from ≤ s .args .strip .left) × (s .args .strip .right ≤ g .reached .result .to) × (g .reached .result .to ≤ s .args .w)
   span = reached-in _ _ _ _ _ _ _ (g .reached .ensures) (s .pre .1 .0) (s .pre .1 .1)
@@ -91,7 +91,7 @@ spread-rows-requires : tie.Need-spread-rows-requires Inv-loop μ-loop
 spread-rows-requires c κs =
     let g = c .before in
     let i = span (r g) in
-    ((t g .pre .0 .0, t g .pre .0 .1, omega (arith, fits g, t g .pre .1 .3), few g), (omega (arith, i .0, i .1, t g .pre .1 .0), i .2, g .before .before .loop .inv .2))
+    ((t g .pre .0 .0, t g .pre .0 .1, omega (arith, fits g, t g .pre .1 .3), few g, t g .pre .0 .3), (omega (arith, i .0, i .1, t g .pre .1 .0), i .2, g .before .before .loop .inv .2))
 
 slice-aggregate-pass-lines : tie.Need-slice-aggregate-pass-lines Inv-loop μ-loop
 slice-aggregate-pass-lines c = search needs
@@ -149,7 +149,7 @@ loop-again c =
     let L = g .before .before .loop in
     let a = t g .args in
     let B = blurs-banded (a .d) _ (r g .before .spread-of .ensures .0) in
-    let K = lanes-worked _ _ _ _ _ _ (stands-blank (a .w) (a .h) (a .source .now) (a .workspace .now) (a .input)) B _ _ _ _ _ _ _ _ _ (r g .reached .ensures) (t g .pre .1 .1) (few g) (q .spread-rows .ensures .lanes) (p .pass-lines .ensures .0) in (
+    let K = lanes-worked _ _ _ _ _ _ (shown-blank (a .lens) (a .w) (a .h) (a .source .now) (a .workspace .now) (a .input)) B _ _ _ _ _ _ _ _ _ (r g .reached .ensures) (t g .pre .1 .1) (few g) (q .spread-rows .ensures .lanes) (p .pass-lines .ensures .0) in (
       omega (arith, L .inv .0),
       fits g,
       search needs,

@@ -4,7 +4,7 @@ use mathlib.Core.Path.{refl}
 use native.Mathlib.Omega.{arith}
 use borrow.Author.Needs.{needs}
 use Rattle.window.proofs.Numbers.{area-le}
-use Rattle.stage.proofs.Read.{stands-blank}
+use Rattle.stage.proofs.Shown.{shown-blank}
 use Rattle.stage.proofs.Rows.{drawn-none}
 use Rattle.draw_window.proofs.Strips.{reached-in, strip-area}
 use Rattle.draw_window.proofs.Bands.{drawn-both}
@@ -28,7 +28,7 @@ reached-requires c κs = search needs
 -- what holds once the rows are known
 module _ (g : tie.After-reached) where
   abbrev s : tie.Start
-  s = g .before .before .before .before .before .before .before .before .before
+  s = g .before .before .before .before .before .before .before .before .before .before
 
   wide : s .args .rect .left < s .args .rect .right
   wide = omega (arith, g .before .before .before .before .if1 .left)
@@ -46,7 +46,7 @@ blur-across-requires : tie.Need-blur-across-requires
 blur-across-requires c κs =
     let g = c .before .before in
     let i = inner g in (
-      (s g .pre .0 .0, s g .pre .0 .2, omega (arith, s g .pre .1 .0, s g .pre .1 .1)),
+      (s g .pre .0 .0, s g .pre .0 .2, omega (arith, s g .pre .1 .0, s g .pre .1 .1), s g .pre .0 .3),
       (wide g, s g .pre .1 .2 .right, omega (arith, i .0, i .1, high g), i .2, omega (arith, area g (g .reached .result .to) (i .2), s g .pre .0 .1)),
     )
 
@@ -85,7 +85,7 @@ returns-3 c =
     let e = d .before .before .before .before in
     let g = e .before .before .before in
     let a = s g .args in (
-      drawn-both _ _ (spread (a .dx)) (spread (a .dx)) _ _ _ _ _ _ _ (stands-blank (a .w) (a .h) (a .source .now) (a .workspace .now) (a .input)) (blurs-banded (a .dx) _ refl) (blurs-banded (a .dy) _ (g .before .spread-of .ensures .0))
+      drawn-both _ _ (spread (a .dx)) (spread (a .dx)) _ _ _ _ _ _ _ (shown-blank (a .lens) (a .w) (a .h) (a .source .now) (a .workspace .now) (a .input)) (blurs-banded (a .dx) _ refl) (blurs-banded (a .dy) _ (g .before .spread-of .ensures .0))
           (blur-is (a .w) (a .h) (a .input) (a .dx) (a .dy) _)
           (a .rect) _ _ _ _ _ _ _ (s g .pre .1 .2) (g .reached .ensures) (e .blur-across .ensures) (d .blur-down .ensures .0) (c .before .before .store-rows .ensures),
       search needs,

@@ -4,7 +4,7 @@ use mathlib.Core.Path.{refl}
 use native.Mathlib.Omega.{arith}
 use borrow.Author.Needs.{needs}
 use Rattle.window.proofs.Numbers.{area-le}
-use Rattle.stage.proofs.Read.{stands-blank}
+use Rattle.stage.proofs.Shown.{shown-blank}
 use Rattle.stage.proofs.Rows.{drawn-none}
 use Rattle.draw_window.proofs.Strips.{reached-in, strip-area}
 use Rattle.draw_window.proofs.Bands.{drawn-both}
@@ -30,7 +30,7 @@ reached-requires c κs = search needs
 -- what holds once the rows are known
 module _ (g : tie.After-reached) where
   abbrev s : tie.Start
-  s = g .before .before .before .before .before .before .before .before .before .before
+  s = g .before .before .before .before .before .before .before .before .before .before .before
 
   wide : s .args .rect .left < s .args .rect .right
   wide = omega (arith, g .before .before .before .before .before .if1 .left)
@@ -49,7 +49,7 @@ extreme-across-requires c κs =
     let g = c .before .before in
     let k = g .before .before .radius-window .ensures in
     let i = inner g in (
-      (s g .pre .0 .0, s g .pre .0 .2, k .2, k .3),
+      (s g .pre .0 .0, s g .pre .0 .2, k .2, k .3, s g .pre .0 .3),
       (wide g, s g .pre .1 .2 .right, omega (arith, i .0, i .1, high g), i .2, omega (arith, area g (g .reached .result .to) (i .2), s g .pre .0 .1)),
     )
 
@@ -91,7 +91,7 @@ returns-3 c =
     let a = s g .args in
     let x = g .before .before .radius-window .ensures in
     let y = g .before .radius-window2 .ensures in (
-      drawn-both _ _ _ _ _ _ _ _ _ _ _ (stands-blank (a .w) (a .h) (a .source .now) (a .workspace .now) (a .input)) (extremes-banded (a .op) _ _) (extremes-banded (a .op) _ _)
+      drawn-both _ _ _ _ _ _ _ _ _ _ _ (shown-blank (a .lens) (a .w) (a .h) (a .source .now) (a .workspace .now) (a .input)) (extremes-banded (a .op) _ _) (extremes-banded (a .op) _ _)
           (morphology-is (a .op) (a .w) (a .h) (a .input) (a .rx) (a .ry) _ _ _ _ _ (x .0) (x .1) (y .0) (y .1))
           (a .rect) _ _ _ _ _ _ _ (s g .pre .1 .2) (g .reached .ensures) (e .extreme-across .ensures) (d .extreme-down .ensures .0) (c .before .before .store-rows .ensures),
       search needs,

@@ -4,9 +4,9 @@ use mathlib.Core.Path.{_≡_, refl, _∙_}
 use native.Mathlib.Omega.{arith}
 use borrow.Author.Needs.{needs}
 use lib.ListN.{length}
-use Rattle.stage.specs.Buffers.{stands}
+use Rattle.stage.specs.Shown.{shown}
 use Rattle.stage.specs.Strip.{Strip}
-use Rattle.stage.proofs.Read.{stands-blank}
+use Rattle.stage.proofs.Shown.{shown-blank}
 use Rattle.draw_window.specs.Passes.{acrossOf}
 use Rattle.stage.proofs.Sizes.{row-room}
 use Rattle.draw_window.proofs.Strips.{strip-none, strip-painted}
@@ -18,12 +18,12 @@ use Rattle.draw_morph.proofs.extreme_across.Statement.{statement}
 use Rattle.draw_morph.proofs.extreme_across.Tie as tie
 
 abbrev Inv-loop : tie.InvT-loop
-Inv-loop op workspace source scratch₀ w h n input k left right top bottom width from to line₀ y₀ scratch line y =
+Inv-loop op workspace source scratch₀ w h n lens pairs input k left right top bottom width from to line₀ y₀ scratch line y =
     (top ≤ y) × (y ≤ bottom) × (length line ≡ 2 * longestRow + 512) × (length scratch ≡ length scratch₀)
-    × Strip (acrossOf (extremes op (k .back) (k .ahead)) w (stands w h source workspace input)) 0 left right top y scratch
+    × Strip (acrossOf (extremes op (k .back) (k .ahead)) w (shown lens w h source workspace input)) 0 left right top y scratch
 
 abbrev μ-loop : tie.MeasureT-loop
-μ-loop op workspace source scratch₀ w h n input k left right top bottom width from to line₀ y₀ scratch line y = bottom - y
+μ-loop op workspace source scratch₀ w h n lens pairs input k left right top bottom width from to line₀ y₀ scratch line y = bottom - y
 
 sub-width : tie.Need-sub-width Inv-loop μ-loop
 sub-width c = search needs
@@ -39,16 +39,16 @@ slice-aggregate-load c = search needs
 
 load-requires : tie.Need-load-requires Inv-loop μ-loop
 load-requires c κs =
-    let s = c .before .before .before .before .before .before .before in
+    let s = c .before .before .before .before .before .before .before .before in
     let R = c .before .before .before .reached .ensures in
-    (s .pre .0 .0, (omega arith, omega arith, omega arith, s .pre .0 .1, omega (arith, s .pre .0 .0 .wide)))
+    ((s .pre .0 .0, s .pre .0 .4), (omega arith, omega arith, omega arith, s .pre .0 .1, omega (arith, s .pre .0 .0 .wide)))
 
 sub-at : tie.Need-sub-at Inv-loop μ-loop
 sub-at c = search needs
 
 mul-at : tie.Need-mul-at Inv-loop μ-loop
 mul-at c =
-    let s = c .before .before .before .before .before .before .before .before .before in
+    let s = c .before .before .before .before .before .before .before .before .before .before in
     let L = c .before .before .before .before .loop in
     let t = s .args .strip in
     omega (arith, row-room (L .y) (t .top) (t .bottom) (t .right - t .left) (omega arith) (omega arith))
@@ -64,7 +64,7 @@ sub-extreme-row-2 c = search needs
 
 extreme-row-requires : tie.Need-extreme-row-requires Inv-loop μ-loop
 extreme-row-requires c κs =
-    let s = c .before .before .before .before .before .before .before .before .before .before .before in
+    let s = c .before .before .before .before .before .before .before .before .before .before .before .before in
     let R = c .before .before .before .before .before .before .before .reached .ensures in
     let L = c .before .before .before .before .before .before .loop in
     let t = s .args .strip in (
@@ -80,7 +80,7 @@ loop-less c = search needs
 
 loop-again : tie.Need-loop-again Inv-loop μ-loop
 loop-again c =
-    let s = c .before .before .before .before .before .before .before .before .before .before .before .before .before .before .before in
+    let s = c .before .before .before .before .before .before .before .before .before .before .before .before .before .before .before .before in
     let a = s .args in
     let R = c .before .before .before .before .before .before .before .before .before .before .before .reached .ensures in
     let L = c .before .before .before .before .before .before .before .before .before .before .loop in
@@ -91,7 +91,7 @@ loop-again c =
       search needs,
       P .long ∙ L .inv .3,
       strip-painted _ _ _ _ _ _ _ _ _ (L .inv .0) refl (L .inv .4) P
-          (λ x l m. band-row _ _ _ _ _ _ (stands-blank (a .w) (a .h) (a .source .now) (a .workspace .now) (a .input)) (extremes-banded (a .op) (a .k .back) (a .k .ahead)) _ _ _ _ _ _ _ R (s .pre .1 .1) G x _ l m),
+          (λ x l m. band-row _ _ _ _ _ _ (shown-blank (a .lens) (a .w) (a .h) (a .source .now) (a .workspace .now) (a .input)) (extremes-banded (a .op) (a .k .back) (a .k .ahead)) _ _ _ _ _ _ _ R (s .pre .1 .1) G x _ l m),
     )
 
 same-length : tie.Need-same-length Inv-loop μ-loop
@@ -100,7 +100,7 @@ same-length c = c .before .loop .inv .3
 returns : tie.Need-returns Inv-loop μ-loop
 returns c =
     let L = c .before .loop in
-    let e : L .y ≡ c .before .before .before .before .before .before .args .strip .bottom = omega arith in
+    let e : L .y ≡ c .before .before .before .before .before .before .before .args .strip .bottom = omega arith in
     rw e at (L .inv .4)
 
 pub extreme-across-spec : {M : Type 1} → statement M

@@ -12,7 +12,7 @@ slice-aggregate-prepare c = search needs
 prepare-requires : tie.Need-prepare-requires
 unfolding Bounded
 prepare-requires c κs =
-    let s = c .before .before .before in
+    let s = c .before .before .before .before in
     (search needs, s .pre .0 .bounded)
 
 slice-aggregate-draw-prepared : tie.Need-slice-aggregate-draw-prepared
@@ -31,7 +31,7 @@ draw-prepared-requires : tie.Need-draw-prepared-requires
 unfolding Pointwise Prepared
 draw-prepared-requires c κs =
     let prepare-at = c .before .before .before .before .before .before in
-    let s = prepare-at .before .before .before .before in
+    let s = prepare-at .before .before .before .before .before in
     (s .pre .0, tt, prepare-at .prepare .ensures, s .pre .1, s .pre .2)
 
 same-length : tie.Need-same-length

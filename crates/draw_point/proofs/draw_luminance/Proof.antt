@@ -34,7 +34,7 @@ unfolding Pointwise Prepared
 draw-prepared-requires c κs =
     let prepare2-at = c .before .before .before .before .before .before in
     let prepare-at = prepare2-at .before .before .before in
-    let s = prepare-at .before .before .before .before in
+    let s = prepare-at .before .before .before .before .before in
     (s .pre .0, tt, (prepare-at .prepare .ensures, prepare2-at .prepare2 .ensures), s .pre .1, s .pre .2)
 
 same-length : tie.Need-same-length

@@ -17,7 +17,7 @@ slice-aggregate-draw-prepared-4 c = search needs
 
 draw-prepared-requires : tie.Need-draw-prepared-requires
 draw-prepared-requires c κs =
-    let s = c .before .before .before .before .before .before .before in
+    let s = c .before .before .before .before .before .before .before .before in
     (s .pre .0, s .pre .1, s .pre .2 _ _ _ _, s .pre .3, s .pre .4)
 
 same-length : tie.Need-same-length

@@ -62,13 +62,13 @@ use Rattle.lent.proofs.Tail.{tail}
 use Rattle.lent.proofs.Elem.{elem-look, elem-shut}
 use Rattle.lent.proofs.Again.{LentAgain, lends-again, comes-back}
 use Rattle.lent.proofs.StepSize.{stepSize, size-lit, before}
-use Rattle.plan.specs.declared.Damages.{Damages}
-use Rattle.plan.proofs.Damages as D
-use Rattle.plan.proofs.Damages.Laws as D′
-use Rattle.plan.proofs.damage.no_damages as no-damages
-use Rattle.plan.proofs.damage.no_damages.Symbol as no-damages-def
-use Rattle.plan.proofs.damage.no_damages.Symbol.{name as #plan·no-damages}
-use Rattle.plan.proofs.damage.no_damages.Met as no-damages-thm
+use Rattle.plan.specs.declared.SoFar.{SoFar}
+use Rattle.plan.proofs.SoFar as D
+use Rattle.plan.proofs.SoFar.Laws as D′
+use Rattle.plan.proofs.progress.none_so_far as none-so-far
+use Rattle.plan.proofs.progress.none_so_far.Symbol as none-so-far-def
+use Rattle.plan.proofs.progress.none_so_far.Symbol.{name as #plan·none-so-far}
+use Rattle.plan.proofs.progress.none_so_far.Met as none-so-far-thm
 use Rattle.layers.specs.Drawing.{ReadyFor, Drawing}
 use Rattle.layers.specs.Next.{NextReady, ScratchAfter}
 use Rattle.layers.proofs.DrawLoop.{needs-two, None, Stt, Nearer, Nearer-wf, start, Next, nearer, next, ready, last}
@@ -93,10 +93,10 @@ module _ {M : Type 1} (𝓤 : URA M) (H : Heap 𝓤) (A : Atoms 𝓤) (mem : Mem
   Work = tripleOf 𝓤 H A draw-next.signature (draw-next.spec 𝓤 H A mem run)
 
   abbrev NoDamages : Contract 𝓤
-  NoDamages = tripleOf 𝓤 H A no-damages.signature (no-damages.spec 𝓤 H A mem run)
+  NoDamages = tripleOf 𝓤 H A none-so-far.signature (none-so-far.spec 𝓤 H A mem run)
 
-  none-says : (r : Damages) → ent 𝓤 (ensured 𝓤 H A no-damages.ended (no-damages.clauses 𝓤 H A mem run) tt tt tt r) (fact 𝓤 (None r))
-  none-says r = exE 𝓤 _ (λ ws. snd∗ 𝓤 (sem 𝓤 H A (lasts no-damages.ended tt tt ws)) (fact 𝓤 (None r)))
+  none-says : (r : SoFar) → ent 𝓤 (ensured 𝓤 H A none-so-far.ended (none-so-far.clauses 𝓤 H A mem run) tt tt tt r) (fact 𝓤 (None r))
+  none-says r = exE 𝓤 _ (λ ws. snd∗ 𝓤 (sem 𝓤 H A (lasts none-so-far.ended tt tt ws)) (fact 𝓤 (None r)))
 
 module _ {M : Type 1} (𝓤 : URA M) (H : Heap 𝓤) (A : Atoms 𝓤) (W : Given 𝓤 H A) (mem : Memory → SProp 𝓤) (run : Routine → Fun 𝓤) (κ κ₁ κ₂ κ₃ : Lft) (q q₁ q₂ q₃ : Share) (b o : ℕ) (γ : GName) (b₁ o₁ : ℕ) (γ₁ : GName) (b₂ o₂ : ℕ) (γ₂ : GName) (b₃ o₃ : ℕ) (γ₃ : GName) (call : Call) (vk : Val) (gk : Is K.the-row call (vk ∷ [])) (sheet : Sheet) (gh : Is S.the-row sheet (LL.vals S.the-type S′.the-laws sheet)) (ans : Answer) (va : Val) (ga : Is Q.the-row ans (va ∷ [])) (ys : List Step) (src ws₀ sc₀ : List ℕ) where
   abbrev x : RefT (List Step)
@@ -153,7 +153,7 @@ module _ {M : Type 1} (𝓤 : URA M) (H : Heap 𝓤) (A : Atoms 𝓤) (W : Given
   abbrev Has : List ℕ → List ℕ → List (Item 𝓤) → List (Item 𝓤)
   Has w c Γ = ‵ Steps ∷ ‵ (flft κ q) ∷ ‵ Src ∷ ‵ (flft κ₁ q₁) ∷ ‵ (Ws κ₂ γ₂ w (length ws₀)) ∷ ‵ (flft κ₂ q₂) ∷ ‵ (Sc κ₃ γ₃ c (length sc₀)) ∷ ‵ (flft κ₃ q₃) ∷ Γ
 
-  exits : (d : Damages) (v : Val) (w c : List ℕ) → Is D.the-row d (v ∷ []) → length w ≡ length ws₀ → length c ≡ length sc₀ → Drawing call sheet ans ys src ws₀ sc₀ w c (d .count) → ent 𝓤 (⋆ 𝓤 H A (Has w c [])) (Post v)
+  exits : (d : SoFar) (v : Val) (w c : List ℕ) → Is D.the-row d (v ∷ []) → length w ≡ length ws₀ → length c ≡ length sc₀ → Drawing call sheet ans ys src ws₀ sc₀ w c (d .count) → ent 𝓤 (⋆ 𝓤 H A (Has w c [])) (Post v)
   exits d v w c gd ew ec f =
       qed W (Has w c []) ∵
       suffices ! _ (ends-at 𝓤 H A all′.ended stayed (all′.clauses 𝓤 H A mem run) W bound v d (tt, (tt, (tt, (tt, (tt, (w, (c, tt))))))) (tt, (tt, (tt, (tt, (tt, (ew, (ec, tt)))))))) $ says ! f $
@@ -167,7 +167,7 @@ module _ {M : Type 1} (𝓤 : URA M) (H : Heap 𝓤) (A : Atoms 𝓤) (W : Given
   goes-first : ent 𝓤 (emp 𝓤) (NoDamages 𝓤 H A mem run .pre to-none)
   goes-first = qed W [] ∵ nothing ! $ nothing ! $ join ! $ frame ! $ done !
 
-  module _ (i : ℕ) (d : Damages) (v : Val) (w c : List ℕ) (ν μ : ℕ) (δ ε : GName) where
+  module _ (i : ℕ) (d : SoFar) (v : Val) (w c : List ℕ) (ν μ : ℕ) (δ ε : GName) where
     abbrev args : Args draw-next.signature (κ₁, (ν ∷ [], (μ ∷ [], tt)))
     args = (call, (sheet, (ans, (i, (stepAt ys i, (d, (xs, (xw δ w, (xc ε c, tt)))))))))
 
@@ -187,7 +187,7 @@ module _ {M : Type 1} (𝓤 : URA M) (H : Heap 𝓤) (A : Atoms 𝓤) (W : Given
         owned ! D.the-row (Is D.the-row) (LL.makes D.the-type D′.the-plain 𝓤 H A) d _ gd $ fjoin ! $ owned ! T.the-row (Is T.the-row) (LL.makes T.the-type T′.the-plain 𝓤 H A) (stepAt ys i) _ g $ fjoin ! $ owned ! usize (Is usize) (uint-makes 𝓤 H A W w64) i _ (refl, gi) $ fjoin ! $
         owned ! Q.the-row (Is Q.the-row) (EL.makes Q.the-type Q′.the-plain 𝓤 H A) ans _ ga $ fjoin ! $ owned ! S.the-row (Is S.the-row) (LL.makes S.the-type S′.the-plain 𝓤 H A) sheet _ gh $ fjoin ! $ owned ! K.the-row (Is K.the-row) (EL.makes K.the-type K′.the-plain 𝓤 H A) call _ gk $ fjoin ! $ done !
 
-  module _ (𝓣 : Tables 𝓤 H) (fm : FmC 𝓤 H (W .laws) (𝓣 .C)) (known₁ : Triple 𝓤 (𝓣 .C #plan·no-damages) (NoDamages 𝓤 H A mem run)) (known₂ : Triple 𝓤 (𝓣 .C #layers·draw-next) (Work 𝓤 H A mem run)) (gn : Room T.the-row (length ys)) (gs : Room u8 (length src)) (gw : Room u8 (length ws₀)) (gc : Room u8 (length sc₀)) (enough : sheet .count ≤ length ys) (R : accepted? ans ≡ true → ReadyFor call sheet ys src ws₀ sc₀) where
+  module _ (𝓣 : Tables 𝓤 H) (fm : FmC 𝓤 H (W .laws) (𝓣 .C)) (known₁ : Triple 𝓤 (𝓣 .C #plan·none-so-far) (NoDamages 𝓤 H A mem run)) (known₂ : Triple 𝓤 (𝓣 .C #layers·draw-next) (Work 𝓤 H A mem run)) (gn : Room T.the-row (length ys)) (gs : Room u8 (length src)) (gw : Room u8 (length ws₀)) (gc : Room u8 (length sc₀)) (enough : sheet .count ≤ length ys) (R : accepted? ans ≡ true → ReadyFor call sheet ys src ws₀ sc₀) where
     abbrev C : Calls 𝓤 H
     C = 𝓣 .C
 
@@ -268,7 +268,7 @@ module _ {M : Type 1} (𝓤 : URA M) (H : Heap 𝓤) (A : Atoms 𝓤) (W : Given
           use1 W (raw (Work 𝓤 H A mem run .pre (to-work (t .n) (t .d) (t .v) (t .ws) (t .sc) ν μ δ ε))) (goes (t .n) (t .d) (t .v) (t .ws) (t .sc) ν μ δ ε g (n-fits l) (t .own) (ready call sheet ans ys src ws₀ sc₀ R t l)) $
           -- [what `draw_next` asks; src; what was lent, twice; steps; its token; _18; …]
           calls-at ! fm (Work 𝓤 H A mem run) known₂ (to-work (t .n) (t .d) (t .v) (t .ws) (t .sc) ν μ δ ε) (and-then ! (load ! (from ! (stop !)) (look ! 40 refl)) (and-then ! (load ! (from ! (stop !)) (look ! 38 refl)) (and-then ! (load ! (from ! (stop !)) (look ! 36 refl)) (and-then ! (load ! (from ! (stop !)) (look ! 22 refl)) (and-then ! (load ! (from ! (stop !)) (look ! 14 refl)) (and-then ! (load ! (from ! (stop !)) (look ! 24 refl)) (and-then ! (load ! (from ! (stop !)) (look ! 32 refl)) (and-then ! (load ! (from ! (stop !)) (look ! 10 refl)) (and-then ! (load ! (from ! (stop !)) (look ! 6 refl)) (no-more !)))))))))) (λ u.
-          use1 W (later (some (λ (r : Damages). ((‵ (flft κ₁ q₁) ⊛ ‵ (flft (ν ∷ []) fullShare) ⊛ ‵ (flft (μ ∷ []) fullShare) ⊛ ‵ ftrue) ⊛ ‵ (D.the-row .own r (u ∷ []))) ⊛ raw (ensured 𝓤 H A draw-next.ended (draw-next.clauses 𝓤 H A mem run) (κ₁, (ν ∷ [], (μ ∷ [], tt))) (args (t .n) (t .d) (t .v) (t .ws) (t .sc) ν μ δ ε) tt r)))) (id⊢ 𝓤 _) $ await ! tt $ pick ! (λ r. split ! $ move ! (1 ∷ []) $
+          use1 W (later (some (λ (r : SoFar). ((‵ (flft κ₁ q₁) ⊛ ‵ (flft (ν ∷ []) fullShare) ⊛ ‵ (flft (μ ∷ []) fullShare) ⊛ ‵ ftrue) ⊛ ‵ (D.the-row .own r (u ∷ []))) ⊛ raw (ensured 𝓤 H A draw-next.ended (draw-next.clauses 𝓤 H A mem run) (κ₁, (ν ∷ [], (μ ∷ [], tt))) (args (t .n) (t .d) (t .v) (t .ws) (t .sc) ν μ δ ε) tt r)))) (id⊢ 𝓤 _) $ await ! tt $ pick ! (λ r. split ! $ move ! (1 ∷ []) $
           use1 W (some (λ (ls : Lasts draw-next.ended (κ₁, (ν ∷ [], (μ ∷ [], tt))) (args (t .n) (t .d) (t .v) (t .ws) (t .sc) ν μ δ ε)). ‵ (lasts draw-next.ended (κ₁, (ν ∷ [], (μ ∷ [], tt))) (args (t .n) (t .d) (t .v) (t .ws) (t .sc) ν μ δ ε) ls) ⊛ raw (fact 𝓤 (Next call sheet ans ys src ws₀ sc₀ t (ls .1 .1 .1 .1 .1 .1 .1 .0) r)) ⊛ raw (fact 𝓤 (ScratchAfter ans (t .sc) (ls .1 .1 .1 .1 .1 .1 .1 .1 .0))))) (id⊢ 𝓤 _) $ pick ! (λ ls. split ! $ move ! (1 ∷ []) $ split ! $
           heard ! (Next call sheet ans ys src ws₀ sc₀ t (ls .1 .1 .1 .1 .1 .1 .1 .0) r) (λ e. heard ! (ScratchAfter ans (t .sc) (ls .1 .1 .1 .1 .1 .1 .1 .1 .0)) (λ k. fsplit ! $ drop ! $ fsplit ! $ drop ! $ fsplit ! $ drop ! $ fsplit ! $ drop ! $ fsplit ! $ drop ! $ fsplit ! $ drop ! $ fsplit ! $ drop ! $ fsplit ! $ fsplit ! $ move ! (1 ∷ []) $ feqL ! (λ ew. move ! (1 ∷ []) $ fsplit ! $ fsplit ! $ move ! (1 ∷ []) $ feqL ! (λ ec.
           move ! (3 ∷ []) $ split ! $ move ! (1 ∷ []) $ peeks ! D.the-row (Is D.the-row) (shows 𝓤 H A D.the-row) r (u ∷ []) (λ is. drop ! $
@@ -304,7 +304,7 @@ module _ {M : Type 1} (𝓤 : URA M) (H : Heap 𝓤) (A : Atoms 𝓤) (W : Given
       looped : (t : Stt′) → Sq W (At t) (runs C Λ En mir.t-4 (atRet En Post))
       looped t = first ! $ blocks ! $ loops ! 𝓣 (Nearer call sheet ans ys src ws₀ sc₀) (Nearer-wf call sheet ans ys src ws₀ sc₀) At turn t
 
-      started : (d : Damages) (v : Val) → Is D.the-row d (v ∷ []) → None d
+      started : (d : SoFar) (v : Val) → Is D.the-row d (v ∷ []) → None d
           → Sq W (Has ws₀ sc₀ (Locals counted (‵ (fat fullShare D′.mir l₉ 0 v)) (‵ (froom word l₁₀ 0)))) (runs C Λ En mir.t-3 (atRet En Post))
       started d v g e = assigns ! (of-opd ! (lit ! tt)) (from ! (stop !)) (init ! 24 refl (tt, record { fits = lit< tt })) $ looped (start call sheet ans ys src ws₀ sc₀ d v g e)
 
@@ -314,7 +314,7 @@ module _ {M : Type 1} (𝓤 : URA M) (H : Heap 𝓤) (A : Atoms 𝓤) (W : Given
           assigns ! (of-opd ! (load ! (from ! (fld ! refl (stop !))) (look-in ! 40 (sub ! 2 refl (whole !))))) (from ! (stop !)) (init ! 28 refl (tt, record { fits = count-fits })) $
           use0 W (raw (NoDamages 𝓤 H A mem run .pre to-none)) goes-first $
           calls-at ! fm (NoDamages 𝓤 H A mem run) known₁ to-none (no-more !) (λ u.
-          use1 W (later (some (λ (r : Damages). (‵ ftrue ⊛ ‵ (D.the-row .own r (u ∷ []))) ⊛ raw (ensured 𝓤 H A no-damages.ended (no-damages.clauses 𝓤 H A mem run) tt tt tt r)))) (id⊢ 𝓤 _) $ await ! tt $ pick ! (λ r. split ! $ move ! (1 ∷ []) $
+          use1 W (later (some (λ (r : SoFar). (‵ ftrue ⊛ ‵ (D.the-row .own r (u ∷ []))) ⊛ raw (ensured 𝓤 H A none-so-far.ended (none-so-far.clauses 𝓤 H A mem run) tt tt tt r)))) (id⊢ 𝓤 _) $ await ! tt $ pick ! (λ r. split ! $ move ! (1 ∷ []) $
           use1 W (raw (fact 𝓤 (None r))) (none-says 𝓤 H A mem run r) $ heard ! (None r) (λ e. split ! $ move ! (1 ∷ []) $ peeks ! D.the-row (Is D.the-row) (shows 𝓤 H A D.the-row) r (u ∷ []) (λ is.
           -- [the rectangles'; true; steps; …]
           land ! (from ! (stop !)) (init ! 28 refl (LL.lawful D.the-type D′.the-laws 𝓤 H A W .typed r _ is .0)) $
@@ -332,14 +332,14 @@ module _ {M : Type 1} (𝓤 : URA M) (H : Heap 𝓤) (A : Atoms 𝓤) (W : Given
         begun l₀ l₁ l₂ l₃ l₄ l₅ l₆ l₇ l₈ l₉ l₁₀ l₁₁ l₁₂ l₁₃ l₁₄ l₁₅ l₁₆ l₁₇ l₁₈)))))))))))))))))))
 
 module _ {M : Type 1} (𝓤 : URA M) (H : Heap 𝓤) (A : Atoms 𝓤) (W : Given 𝓤 H A) (mem : Memory → SProp 𝓤) (run : Routine → Fun 𝓤) where
-  walks : (𝓣 : Tables 𝓤 H) → Triple 𝓤 (𝓣 .C #plan·no-damages) (NoDamages 𝓤 H A mem run) → Triple 𝓤 (𝓣 .C #layers·draw-next) (Work 𝓤 H A mem run) → Walks 𝓤 H A all′.ended stayed (WpFn 𝓤 H (𝓣 .C) (𝓣 .Λ) code.function) (all′.clauses 𝓤 H A mem run)
+  walks : (𝓣 : Tables 𝓤 H) → Triple 𝓤 (𝓣 .C #plan·none-so-far) (NoDamages 𝓤 H A mem run) → Triple 𝓤 (𝓣 .C #layers·draw-next) (Work 𝓤 H A mem run) → Walks 𝓤 H A all′.ended stayed (WpFn 𝓤 H (𝓣 .C) (𝓣 .Λ) code.function) (all′.clauses 𝓤 H A mem run)
   walks 𝓣 known₁ known₂ = walked 𝓤 H A all′.ended stayed (all′.clauses 𝓤 H A mem run) (WpFn 𝓤 H (𝓣 .C) (𝓣 .Λ) code.function) (λ κs. (EL.vals K.the-type K′.the-laws, (LL.vals S.the-type S′.the-laws, (EL.vals Q.the-type Q′.the-laws, (slice-vals, (slice-vals, (slice-vals, (slice-vals, tt))))))))
       (λ κs. (EL.tells K.the-type K′.the-laws, (LL.tells S.the-type S′.the-laws, (EL.tells Q.the-type Q′.the-laws, (shr-slice-tells (named 0) (κs .0) T.the-row, (shr-slice-tells (named 1) (κs .1 .0) u8, (mut-slice-tells (named 2) (κs .1 .1 .0) u8, (mut-slice-tells (named 3) (κs .1 .1 .1 .0) u8, tt))))))))
       (λ κs qs bounds a g are. needs-two 𝓤 (a .1 .0 .count ≤ length (now (a .1 .1 .1 .0))) (accepted? (a .1 .1 .0) ≡ true → ReadyFor (a .0) (a .1 .0) (now (a .1 .1 .1 .0)) (now (a .1 .1 .1 .1 .0)) (now (a .1 .1 .1 .1 .1 .0)) (now (a .1 .1 .1 .1 .1 .1 .0))) _
       (walk 𝓤 H A W mem run (κs .0) (κs .1 .0) (κs .1 .1 .0) (κs .1 .1 .1 .0) (qs .0) (qs .1 .0) (qs .1 .1 .0) (qs .1 .1 .1 .0) (a .1 .1 .1 .0 .ptr .0) (a .1 .1 .1 .0 .ptr .1) (a .1 .1 .1 .0 .name) (a .1 .1 .1 .1 .0 .ptr .0) (a .1 .1 .1 .1 .0 .ptr .1) (a .1 .1 .1 .1 .0 .name) (a .1 .1 .1 .1 .1 .0 .ptr .0) (a .1 .1 .1 .1 .1 .0 .ptr .1) (a .1 .1 .1 .1 .1 .0 .name) (a .1 .1 .1 .1 .1 .1 .0 .ptr .0) (a .1 .1 .1 .1 .1 .1 .0 .ptr .1) (a .1 .1 .1 .1 .1 .1 .0 .name)
       (a .0) _ (are .0) (a .1 .0) (are .1 .0) (a .1 .1 .0) _ (are .1 .1 .0) (a .1 .1 .1 .0 .now) (a .1 .1 .1 .1 .0 .now) (a .1 .1 .1 .1 .1 .0 .now) (a .1 .1 .1 .1 .1 .1 .0 .now) 𝓣 (fmOf 𝓤 H (W .laws) 𝓣) known₁ known₂ (are .1 .1 .1 .0 .0 .1) (are .1 .1 .1 .1 .0 .0 .1) (are .1 .1 .1 .1 .1 .0 .0 .1) (are .1 .1 .1 .1 .1 .1 .0 .0 .1)))
 
-meets : {M : Type 1} (𝓤 : URA M) (H : Heap 𝓤) (A : Atoms 𝓤) → Given 𝓤 H A → (mem : Memory → SProp 𝓤) (run : Routine → Fun 𝓤) (𝓣 : Tables 𝓤 H) → Triple 𝓤 (𝓣 .C #plan·no-damages) (NoDamages 𝓤 H A mem run) → Triple 𝓤 (𝓣 .C #layers·draw-next) (Work 𝓤 H A mem run)
+meets : {M : Type 1} (𝓤 : URA M) (H : Heap 𝓤) (A : Atoms 𝓤) → Given 𝓤 H A → (mem : Memory → SProp 𝓤) (run : Routine → Fun 𝓤) (𝓣 : Tables 𝓤 H) → Triple 𝓤 (𝓣 .C #plan·none-so-far) (NoDamages 𝓤 H A mem run) → Triple 𝓤 (𝓣 .C #layers·draw-next) (Work 𝓤 H A mem run)
     → Meets 𝓤 H A all′.signature (WpFn 𝓤 H (𝓣 .C) (𝓣 .Λ) code.function) (all′.spec 𝓤 H A mem run)
 meets 𝓤 H A W mem run 𝓣 known₁ known₂ = walk-meets 𝓤 H A all′.ended stayed W (goes-none 𝓤 H A W 4 (λ _. K.the-row) yes (λ κs x f. refl), (goes-none 𝓤 H A W 4 (λ _. S.the-row) yes (λ κs x f. refl), (goes-none 𝓤 H A W 4 (λ _. Q.the-row) yes (λ κs x f. refl), (goes-none-slice 𝓤 H A W 4 (0 ∷ []) tt (plain (λ _. T.the-row)) yes, (goes-none-slice 𝓤 H A W 4 (1 ∷ []) tt (plain (λ _. u8)) yes, (goes-slice 𝓤 H A W 4 2 tt (plain (λ _. u8)), (goes-slice 𝓤 H A W 4 3 tt (plain (λ _. u8)), tt)))))))
     (all′.clauses 𝓤 H A mem run) (WpFn 𝓤 H (𝓣 .C) (𝓣 .Λ) code.function) (WpFn-mono 𝓤 H (W .laws) 𝓣 code.function) (walks 𝓤 H A W mem run 𝓣 known₁ known₂)
@@ -350,5 +350,5 @@ draw-steps-spec 𝓤 H 𝓜 𝓖 𝓡 =
     entered 𝓤 H (tripleOf 𝓤 H (𝓖 .A) all′.signature (all′.spec 𝓤 H (𝓖 .A) (𝓜 .mem) (𝓡 .run)))
     (tables 𝓤 H 𝓜 𝓡 code.env .C) (tables 𝓤 H 𝓜 𝓡 code.env .Λ) #layers·draw-steps code.function (code.unfolded 𝓤 H 𝓜 𝓡)
     (meets 𝓤 H (𝓖 .A) (givenOf 𝓤 H 𝓜 𝓖) (𝓜 .mem) (𝓡 .run) (tablesOf 𝓤 H 𝓜 (tables 𝓤 H 𝓜 𝓡 code.env))
-    (cited 𝓤 H (NoDamages 𝓤 H (𝓖 .A) (𝓜 .mem) (𝓡 .run)) 𝓜 𝓡 code.env #plan·no-damages no-damages-def.routine code.calls-plan·damage·no-damages (no-damages-thm.met 𝓤 H 𝓜 𝓖 𝓡))
+    (cited 𝓤 H (NoDamages 𝓤 H (𝓖 .A) (𝓜 .mem) (𝓡 .run)) 𝓜 𝓡 code.env #plan·none-so-far none-so-far-def.routine code.calls-plan·progress·none-so-far (none-so-far-thm.met 𝓤 H 𝓜 𝓖 𝓡))
     (cited 𝓤 H (Work 𝓤 H (𝓖 .A) (𝓜 .mem) (𝓡 .run)) 𝓜 𝓡 code.env #layers·draw-next draw-next-def.routine code.calls-layers·steps·draw-next (draw-next-thm.met 𝓤 H 𝓜 𝓖 𝓡)))

@@ -32,8 +32,8 @@ step-damage-requires c κs =
     let A = accepted-step (a .w) (a .h) (a .n) (a .step) (ap accepted? (sym (c .before .before .before .check-step .ensures)) ∙ sym (c .before .before .is-accepted .ensures) ∙ not-false _ (c .before .if1 .left)) in
     (A .numbers, region-more (a .w) (a .h) (a .step .region) (s .pre .0 .1) (s .pre .0 .2) (A .region), s .pre .1 .1)
 
-with-damage-requires : tie.Need-with-damage-requires
-with-damage-requires c κs =
+with-rect-requires : tie.Need-with-rect-requires
+with-rect-requires c κs =
     let s = c .before .before .before .before .before in
     let a = s .args in
     (s .pre .0 .0, s .pre .0 .3, within-more (a .w) (a .h) (c .step-damage .result) (s .pre .0 .1) (s .pre .0 .2) (c .step-damage .ensures .1))
@@ -44,7 +44,7 @@ returns-2 c =
     let s = c .before .before .before .before .before .before in
     let a = s .args in
     let D = c .before .step-damage in
-    let E = c .with-damage .ensures in
+    let E = c .with-rect .ensures in
     let z = within-more (a .w) (a .h) (D .result) (s .pre .0 .1) (s .pre .0 .2) (D .ensures .1) in (
       omega (arith, E .1, E .2, s .pre .0 .3),
       ap length (E .0) ∙ length-set (a .damages .rects) (a .n) (D .result) ∙ s .pre .1 .0,
@@ -59,5 +59,5 @@ next-damages-spec =
     is-accepted-requires
     returns
     step-damage-requires
-    with-damage-requires
+    with-rect-requires
     returns-2)

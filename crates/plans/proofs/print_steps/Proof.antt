@@ -19,14 +19,14 @@ Inv-loop w h named lines count answer₀ damages₀ at₀ n₀ answer damages at
 abbrev μ-loop : tie.MeasureT-loop
 μ-loop w h named lines count answer₀ damages₀ at₀ n₀ answer damages at n = count - n
 
-no-damages-requires : tie.Need-no-damages-requires Inv-loop μ-loop
-no-damages-requires c κs = search needs
+none-so-far-requires : tie.Need-none-so-far-requires Inv-loop μ-loop
+none-so-far-requires c κs = search needs
 
 loop-holds : tie.Need-loop-holds Inv-loop μ-loop
 loop-holds c =
     let s = c .before .before in
-    let e = c .no-damages .ensures in
-    (omega arith, omega arith, omega (arith, e .1), ap length (e .0) ∙ length-replicate {A = Rect} mostSteps empty, none-within longestSide longestSide (s .args .named) (s .pre .3) mostSteps (c .no-damages .result .rects) (e .0))
+    let e = c .none-so-far .ensures in
+    (omega arith, omega arith, omega (arith, e .1), ap length (e .0) ∙ length-replicate {A = Rect} mostSteps empty, none-within longestSide longestSide (s .args .named) (s .pre .3) mostSteps (c .none-so-far .result .rects) (e .0))
 
 find-requires : tie.Need-find-requires Inv-loop μ-loop
 find-requires c κs = search needs
@@ -85,7 +85,7 @@ print-steps-spec =
     (tie.spec
     Inv-loop
     μ-loop
-    no-damages-requires
+    none-so-far-requires
     loop-holds
     find-requires
     returns

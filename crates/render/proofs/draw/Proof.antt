@@ -57,9 +57,9 @@ use Rattle.filter.proofs.Sheet as S
 use Rattle.filter.proofs.Sheet.Laws as S′
 use Rattle.filter.proofs.Answer as Q
 use Rattle.filter.proofs.Answer.Laws as Q′
-use Rattle.plan.specs.declared.Damages.{Damages}
-use Rattle.plan.proofs.Damages as D
-use Rattle.plan.proofs.Damages.Laws as D′
+use Rattle.plan.specs.declared.SoFar.{SoFar}
+use Rattle.plan.proofs.SoFar as D
+use Rattle.plan.proofs.SoFar.Laws as D′
 use Rattle.lent.proofs.Again.{LentAgain, lends-again, comes-back}
 use Rattle.lent.proofs.SaysAnd.{says-all}
 use Rattle.layers.specs.Drawing.{ReadyFor, Drawing}
@@ -304,7 +304,7 @@ module _ {M : Type 1} (𝓤 : URA M) (H : Heap 𝓤) (A : Atoms 𝓤) (W : Given
     abbrev Drawn : List ℕ → List ℕ → ℕ → Type 0
     Drawn w′ c′ total = Drawing call h a ys src w c w′ c′ total
 
-  module _ (a : Answer) (v : Val) (ia : Is Q.the-row a (v ∷ [])) (d : Damages) (u : Val) (id : Is D.the-row d (u ∷ [])) (c : List ℕ) where
+  module _ (a : Answer) (v : Val) (ia : Is Q.the-row a (v ∷ [])) (d : SoFar) (u : Val) (id : Is D.the-row d (u ∷ [])) (c : List ℕ) where
     abbrev args-finish : Args finish.signature (κ₃, tt)
     args-finish = (a, (d, (xc γ₃ c, tt)))
 
@@ -373,7 +373,7 @@ module _ {M : Type 1} (𝓤 : URA M) (H : Heap 𝓤) (A : Atoms 𝓤) (W : Given
       no t l = ‵ (froom t l 0)
 
       -- the scratch buffer cleared, and the end
-      ended : (a : Answer) (v : Val) (ia : Is Q.the-row a (v ∷ [])) (d : Damages) (u : Val) (id : Is D.the-row d (u ∷ [])) (v₉ v₁₇ : Val) (m k : ℕ) (w c : List ℕ) → length w ≡ length ws → length c ≡ length sc
+      ended : (a : Answer) (v : Val) (ia : Is Q.the-row a (v ∷ [])) (d : SoFar) (u : Val) (id : Is D.the-row d (u ∷ [])) (v₉ v₁₇ : Val) (m k : ℕ) (w c : List ℕ) → length w ≡ length ws → length c ≡ length sc
           → a ≡ answer → (accepted? a ≡ true → usableOf n ≡ n) → (accepted? a ≡ true → ReadyFor call (with sh n) ys src ws sc) → Drawing call (with sh (usableOf n)) a ys src ws sc w c (d .count)
           → Sq W (Drew w c (Locals (counts l₇ m) (counts l₈ k) (answers l₉ v₉) (answers l₁₀ v) (‵ (fat fullShare D′.mir l₁₁ 0 u)) (‵ (fat fullShare S′.mir l₁₇ 0 v₁₇)))) (runs C Λ En mir.t-16 (atRet En Post))
       ended a v ia d u id v₉ v₁₇ m k w c ew el fa used ready D =
@@ -402,7 +402,7 @@ module _ {M : Type 1} (𝓤 : URA M) (H : Heap 𝓤) (A : Atoms 𝓤) (W : Given
           move ! (3 ∷ []) $ use1 W (‵ Steps ⊛ ‵ Steps) (shr-slice-copy 𝓤 H A W (named 0) κ T.the-row .twice x (s ∷ [])) $ split ! $ move ! (6 ∷ []) $ use1 W (‵ Src ⊛ ‵ Src) (shr-slice-copy 𝓤 H A W (named 1) κ₁ u8 .twice xs (vs ∷ [])) $ split ! $
           move ! (9 ∷ 4 ∷ []) $ fjoin ! $ move ! (1 ∷ 0 ∷ []) $ fjoin ! $ move ! (2 ∷ 0 ∷ []) $ fjoin ! $ move ! (4 ∷ 0 ∷ []) $ fjoin ! $ move ! (6 ∷ 0 ∷ []) $ fjoin ! $ move ! (5 ∷ 0 ∷ []) $ fjoin ! $ move ! (4 ∷ 0 ∷ []) $ fjoin ! $ use1 W (raw (DrawSteps 𝓤 H A mem run .pre (to-draw h y ih a v ia ws sc μ ε))) (goes-draw h y ih a v ia ws sc μ ε enough ready′) $
           calls-at ! fm (DrawSteps 𝓤 H A mem run) known₆ (to-draw h y ih a v ia ws sc μ ε) (and-then ! (load ! (from ! (stop !)) (look ! 48 refl)) (and-then ! (load ! (from ! (stop !)) (look ! 16 refl)) (and-then ! (load ! (from ! (stop !)) (look ! 30 refl)) (and-then ! (load ! (from ! (stop !)) (look ! 44 refl)) (and-then ! (load ! (from ! (stop !)) (look ! 42 refl)) (and-then ! (load ! (from ! (stop !)) (look ! 12 refl)) (and-then ! (load ! (from ! (stop !)) (look ! 8 refl)) (no-more !)))))))) (λ u.
-          use1 W (later (some (λ (d : Damages). ((‵ (flft κ q) ⊛ ‵ (flft κ₁ q₁) ⊛ ‵ (flft κ₂ q₂) ⊛ ‵ (flft (μ ∷ []) fullShare) ⊛ ‵ ftrue) ⊛ ‵ (D.the-row .own d (u ∷ []))) ⊛ raw (ensured 𝓤 H A steps.ended (steps.clauses 𝓤 H A mem run) (κ, (κ₁, (κ₂, (μ ∷ [], tt)))) (args-draw h y ih a v ia ws sc μ ε) tt d)))) (id⊢ 𝓤 _) $ await ! tt $ pick ! (λ d. split ! $ move ! (1 ∷ []) $
+          use1 W (later (some (λ (d : SoFar). ((‵ (flft κ q) ⊛ ‵ (flft κ₁ q₁) ⊛ ‵ (flft κ₂ q₂) ⊛ ‵ (flft (μ ∷ []) fullShare) ⊛ ‵ ftrue) ⊛ ‵ (D.the-row .own d (u ∷ []))) ⊛ raw (ensured 𝓤 H A steps.ended (steps.clauses 𝓤 H A mem run) (κ, (κ₁, (κ₂, (μ ∷ [], tt)))) (args-draw h y ih a v ia ws sc μ ε) tt d)))) (id⊢ 𝓤 _) $ await ! tt $ pick ! (λ d. split ! $ move ! (1 ∷ []) $
           use1 W (some (λ (ls : Lasts steps.ended (κ, (κ₁, (κ₂, (μ ∷ [], tt)))) (args-draw h y ih a v ia ws sc μ ε)). ‵ (lasts steps.ended (κ, (κ₁, (κ₂, (μ ∷ [], tt)))) (args-draw h y ih a v ia ws sc μ ε) ls) ⊛ raw (fact 𝓤 (Drawn h y ih a v ia ws sc μ ε (ls .1 .1 .1 .1 .1 .0) (ls .1 .1 .1 .1 .1 .1 .0) (d .count))))) (id⊢ 𝓤 _) $ pick ! (λ ls. split ! $ move ! (1 ∷ []) $
           heard ! (Drawn h y ih a v ia ws sc μ ε (ls .1 .1 .1 .1 .1 .0) (ls .1 .1 .1 .1 .1 .1 .0) (d .count)) (λ e. fsplit ! $ drop ! $ fsplit ! $ drop ! $ fsplit ! $ drop ! $ fsplit ! $ drop ! $ fsplit ! $ drop ! $ fsplit ! $ fsplit ! $ move ! (1 ∷ []) $ feqL ! (λ ew. move ! (1 ∷ []) $ fsplit ! $ fsplit ! $ move ! (1 ∷ []) $ feqL ! (λ ec. move ! (3 ∷ []) $ split ! $ move ! (1 ∷ []) $ peeks ! D.the-row (Is D.the-row) (shows 𝓤 H A D.the-row) d (u ∷ []) (λ id. drop ! $
           land ! (from ! (stop !)) (init ! 31 refl (LL.lawful D.the-type D′.the-laws 𝓤 H A W .typed d _ id .0)) $ split ! $ move ! (1 ∷ []) $ split ! $ move ! (1 ∷ []) $ split ! $ move ! (1 ∷ []) $ split ! $

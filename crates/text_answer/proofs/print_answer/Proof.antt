@@ -1,6 +1,7 @@
 -- `text_answer::print_answer` meets its contract. Assumes nothing.
-use mathlib.Core.Path.{sym, _∙_}
+use mathlib.Core.Path.{sym, ap, _∙_}
 use borrow.Author.Needs.{needs}
+use Rattle.text_print.specs.Output.{inSrgb}
 use Rattle.text_print.proofs.Puts.{put-as}
 use Rattle.text_answer.proofs.Rooms.{ok-room, refused-room}
 use Rattle.text_answer.proofs.Printed.{answer-ok, answer-refused}
@@ -23,7 +24,9 @@ same-length c = search needs
 
 returns : tie.Need-returns
 returns c =
-    put-as (c .before .before .put-ok .ensures) _ (answer-ok _ _ _ _ _ (sym (c .before .before .before .before .before .before .is-accepted .ensures) ∙ c .before .before .before .before .before .if1 .taken) (c .before .before .before .before .last-layer .ensures .1))
+    let s = c .before .before .before .before .before .before .before .before .before in
+    put-as (c .before .before .put-ok .ensures) _
+    (answer-ok _ _ _ _ _ (sym (c .before .before .before .before .before .before .is-accepted .ensures) ∙ c .before .before .before .before .before .if1 .taken) (ap (inSrgb (s .args .space)) (c .before .before .before .before .last-layer .ensures .1)))
 
 number-requires : tie.Need-number-requires
 number-requires c κs = search needs

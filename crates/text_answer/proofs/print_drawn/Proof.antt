@@ -31,7 +31,7 @@ returns : tie.Need-returns
 returns c =
     let s = c .before .before .before .before .before .before .before .before .before .before .before .before .before in
     let d = c .before .before .before .before .before .before .before .draw in
-    put-as (c .before .before .print-answer .ensures) _ (drawn-text (s .args .text .now) (s .args .width) (s .args .height) (s .args .count) (s .args .source .now) (s .args .workspace .now) _ (s .pre .0 .2) (s .pre .1 .0) (d .ensures .0) _ (d .ensures .1))
+    put-as (c .before .before .print-answer .ensures) _ (drawn-text (s .args .text .now) (s .args .width) (s .args .height) (s .args .count) (s .args .source .now) (s .args .workspace .now) _ (s .pre .0 .2) (s .pre .1 .0) (d .ensures .0) _ (d .ensures .1) _ (s .pre .1 .2))
 
 pub print-drawn-spec : {M : Type 1} → statement M
 print-drawn-spec =

@@ -31,7 +31,7 @@ print-drawn-requires : tie.Need-print-drawn-requires
 print-drawn-requires c κs =
     let s = c .before .before .before .before .before .before in
     let e = ap (λ (k : ℕ). replicate {A = ℕ} (s .args .count * k) 0) (c .before .before .picture-size .ensures .0) in
-    ((s .pre .0 .0, s .pre .0 .1, s .pre .0 .2), (take-zeros _ (mostSteps * textPicture) (room (c .before .before)) ∙ e, s .pre .1 .1))
+    ((s .pre .0 .0, s .pre .0 .1, s .pre .0 .2), (take-zeros _ (mostSteps * textPicture) (room (c .before .before)) ∙ e, s .pre .1 .1, s .pre .1 .2))
 
 same-length : tie.Need-same-length
 same-length c = search needs

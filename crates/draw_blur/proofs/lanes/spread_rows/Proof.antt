@@ -4,7 +4,7 @@ use mathlib.Core.Path.{_≡_, _∙_}
 use native.Mathlib.Omega.{arith}
 use borrow.Author.Needs.{needs}
 use lib.ListN.{length}
-use Rattle.stage.specs.Buffers.{stands}
+use Rattle.stage.specs.Shown.{shown}
 use Rattle.filter.specs.Limits.{longestRow}
 use Rattle.draw_blur.specs.Lanes.{Spread}
 use Rattle.draw_blur.proofs.Turning.{spread-none, spread-more}
@@ -12,11 +12,11 @@ use Rattle.draw_blur.proofs.lanes.spread_rows.Statement.{statement}
 use Rattle.draw_blur.proofs.lanes.spread_rows.Tie as tie
 
 abbrev Inv-loop : tie.InvT-loop
-Inv-loop workspace source w h n input y count lines₀ from to row₀ k₀ lines row k =
-    (k ≤ count) × (length row ≡ longestRow) × Spread (stands w h source workspace input) from to y k lines₀ lines
+Inv-loop workspace source w h n lens pairs input y count lines₀ from to row₀ k₀ lines row k =
+    (k ≤ count) × (length row ≡ longestRow) × Spread (shown lens w h source workspace input) from to y k lines₀ lines
 
 abbrev μ-loop : tie.MeasureT-loop
-μ-loop workspace source w h n input y count lines₀ from to row₀ k₀ lines row k = count - k
+μ-loop workspace source w h n lens pairs input y count lines₀ from to row₀ k₀ lines row k = count - k
 
 loop-holds : tie.Need-loop-holds Inv-loop μ-loop
 loop-holds c = (omega arith, search needs, spread-none _ _ _ _ _)
@@ -29,8 +29,8 @@ slice-aggregate-load c = search needs
 
 load-requires : tie.Need-load-requires Inv-loop μ-loop
 load-requires c κs =
-    let s = c .before .before .before .before .before .before in
-    (s .pre .0 .0, (omega arith, s .pre .1 .0, s .pre .1 .1, s .pre .0 .1, omega (arith, s .pre .0 .0 .wide, s .pre .1 .1, c .before .before .loop .inv .1)))
+    let s = c .before .before .before .before .before .before .before in
+    ((s .pre .0 .0, s .pre .0 .4), (omega arith, s .pre .1 .0, s .pre .1 .1, s .pre .0 .1, omega (arith, s .pre .0 .0 .wide, s .pre .1 .1, c .before .before .loop .inv .1)))
 
 slice-aggregate-spread : tie.Need-slice-aggregate-spread Inv-loop μ-loop
 slice-aggregate-spread c = search needs
@@ -43,7 +43,7 @@ sub-spread c = search needs
 
 spread-requires : tie.Need-spread-requires Inv-loop μ-loop
 spread-requires c κs =
-    let s = c .before .before .before .before .before .before .before .before .before .before in
+    let s = c .before .before .before .before .before .before .before .before .before .before .before in
     let L = c .before .before .before .before .before .before .loop in
     (omega (arith, s .pre .0 .0 .wide, s .pre .1 .1, c .before .before .before .load .ensures .long, L .inv .1), omega (arith, s .pre .0 .0 .wide, s .pre .1 .1, s .pre .1 .2, L .inv .2 .long))
 
@@ -66,7 +66,7 @@ same-length c = c .before .loop .inv .2 .long
 returns : tie.Need-returns Inv-loop μ-loop
 returns c =
     let L = c .before .loop in
-    let e : L .k ≡ c .before .before .before .before .before .args .count = omega arith in
+    let e : L .k ≡ c .before .before .before .before .before .before .args .count = omega arith in
     rw e at (L .inv .2)
 
 pub spread-rows-spec : {M : Type 1} → statement M

@@ -2,7 +2,7 @@
 use borrow.Author.Needs.{needs}
 use Rattle.filter.specs.declared.Primitive.the-variants.{Merge}
 use Rattle.filter.specs.Kinds.{work}
-use Rattle.stage.specs.Buffers.{stands}
+use Rattle.stage.specs.Shown.{shown}
 use Rattle.draw_point.proofs.Strokes.{painted-stored}
 use Rattle.draw_point.proofs.merge.paint_merge.Statement.{statement}
 use Rattle.draw_point.proofs.merge.paint_merge.Tie as tie
@@ -29,9 +29,9 @@ returns : tie.Need-returns
 returns c =
     let store-at = c .before .before in
     let stack-at = store-at .before .before .before .before .before .before .before .before .before in
-    let s = stack-at .before .before .before .before .before .before .before .before .before .before in
+    let s = stack-at .before .before .before .before .before .before .before .before .before .before .before in
     let a = s .args in
-    (painted-stored (work (a .w) (a .h) (Merge (a .count) (a .inputs)) (stands (a .w) (a .h) (a .source .now) (a .workspace .now))) (a .y) (a .from) (a .to) _ _ (stack-at .stack .ensures) _ _ _ (store-at .store .ensures), ((record { long = stack-at .stack .kept .1 .1 .1 .1 .1 .1 .1 .1 .1 .1 .0 }, record { long = stack-at .stack .kept .1 .1 .1 .1 .1 .1 .1 .1 .1 .1 .1 .0 }), record { long = stack-at .stack .ensures .long }))
+    (painted-stored (work (a .w) (a .h) (Merge (a .count) (a .inputs)) (shown (a .lens) (a .w) (a .h) (a .source .now) (a .workspace .now))) (a .y) (a .from) (a .to) _ _ (stack-at .stack .ensures) _ _ _ (store-at .store .ensures), ((record { long = stack-at .stack .kept .1 .1 .1 .1 .1 .1 .1 .1 .1 .1 .1 .1 .0 }, record { long = stack-at .stack .kept .1 .1 .1 .1 .1 .1 .1 .1 .1 .1 .1 .1 .1 .0 }), record { long = stack-at .stack .ensures .long }))
 
 pub paint-merge-spec : {M : Type 1} → statement M
 paint-merge-spec =

@@ -8,7 +8,7 @@ use borrow.Author.Needs.{needs}
 use Rattle.pixel.proofs.Painting.{painted-as}
 use Rattle.filter.specs.Kinds.{work, reads}
 use Rattle.filter.specs.Accepted.{Bounded}
-use Rattle.stage.proofs.Read.{stands-blank}
+use Rattle.stage.proofs.Shown.{shown-blank}
 use Rattle.draw_point.proofs.Strokes.{part-long, painted-row}
 use Rattle.draw_point.proofs.Shifts.{shifted-above, shifted-below, cut-order, cut-wide, cut-few, shift-small, moved-shifted}
 use Rattle.draw_point.proofs.offset.paint_offset.Statement.{statement}
@@ -17,13 +17,13 @@ use Rattle.draw_point.proofs.offset.paint_offset.Tie as tie
 add-below : tie.Need-add-below
 unfolding Bounded
 add-below c =
-    let s = c .before .before .before .before in
+    let s = c .before .before .before .before .before in
     let D = s .pre .0 in
     let R = s .pre .1 in
     omega (arith, D .bounded .1 .minus, R .high, D .sized .high)
 
-paint-flood-requires : tie.Need-paint-flood-requires
-paint-flood-requires c κs = search needs
+paint-none-requires : tie.Need-paint-none-requires
+paint-none-requires c κs = search needs
 
 same-length : tie.Need-same-length
 same-length c = search needs
@@ -31,14 +31,14 @@ same-length c = search needs
 returns : tie.Need-returns
 unfolding work
 returns c =
-    let paint-flood-at = c .before .before in
-    let if1-at = paint-flood-at .before .before in
-    let s = if1-at .before .before .before .before .before .before in
+    let paint-none-at = c .before .before in
+    let if1-at = paint-none-at .before .before in
+    let s = if1-at .before .before .before .before .before .before .before in
     let a = s .args in
-    (painted-as _ _ _ _ _ _ _ (λ x l m. sym (shifted-above (a .dx) (a .dy) _ x (a .y) (if1-at .if1 .taken))) (paint-flood-at .paint-flood .ensures), record { long = refl })
+    (painted-as _ _ _ _ _ _ _ (λ x l m. sym (shifted-above (a .dx) (a .dy) _ x (a .y) (if1-at .if1 .taken))) (paint-none-at .paint-none .ensures), record { long = refl })
 
-paint-flood-requires-2 : tie.Need-paint-flood-requires-2
-paint-flood-requires-2 c κs = search needs
+paint-none-requires-2 : tie.Need-paint-none-requires-2
+paint-none-requires-2 c κs = search needs
 
 same-length-2 : tie.Need-same-length-2
 same-length-2 c = search needs
@@ -46,17 +46,17 @@ same-length-2 c = search needs
 returns-2 : tie.Need-returns-2
 unfolding work
 returns-2 c =
-    let paint-flood2-at = c .before .before in
-    let if2-at = paint-flood2-at .before .before in
+    let paint-none2-at = c .before .before in
+    let if2-at = paint-none2-at .before .before in
     let if1-at = if2-at .before .before in
-    let s = if1-at .before .before .before .before .before .before in
+    let s = if1-at .before .before .before .before .before .before .before in
     let a = s .args in
-    (painted-as _ _ _ _ _ _ _ (λ x l m. sym (shifted-below (a .dx) (a .dy) _ x (a .y) (a .w) (a .h) (stands-blank _ _ _ _ (a .i)) (if1-at .if1 .left) (if2-at .if2 .taken))) (paint-flood2-at .paint-flood2 .ensures), record { long = refl })
+    (painted-as _ _ _ _ _ _ _ (λ x l m. sym (shifted-below (a .dx) (a .dy) _ x (a .y) (a .w) (a .h) (shown-blank (a .lens) _ _ _ _ (a .i)) (if1-at .if1 .left) (if2-at .if2 .taken))) (paint-none2-at .paint-none2 .ensures), record { long = refl })
 
 add-cut : tie.Need-add-cut
 unfolding Bounded
 add-cut c =
-    let s = c .before .before .before .before .before .before .before .before in
+    let s = c .before .before .before .before .before .before .before .before .before in
     let D = s .pre .0 in
     let R = s .pre .1 in
     omega (arith, D .bounded .0 .minus, R .order, R .wide, D .sized .wide)
@@ -67,7 +67,7 @@ cut-requires c κs = search needs
 add-cut-2 : tie.Need-add-cut-2
 unfolding Bounded
 add-cut-2 c =
-    let s = c .before .before .before .before .before .before .before .before .before in
+    let s = c .before .before .before .before .before .before .before .before .before .before in
     let D = s .pre .0 in
     let R = s .pre .1 in
     omega (arith, D .bounded .0 .minus, R .wide, D .sized .wide)
@@ -81,21 +81,25 @@ load-requires c κs =
     let cut2-at = c .before .before in
     let cut-at = cut2-at .before in
     let if2-at = cut-at .before in
-    let s = if2-at .before .before .before .before .before .before .before .before in
+    let s = if2-at .before .before .before .before .before .before .before .before .before in
     let a = s .args in
     let D = s .pre .0 in
     let R = s .pre .1 in
     let few = cut-few (a .w) (a .from) (a .to) (a .dx .plus) (a .dx .minus) _ _ (R .order) (cut-at .cut .ensures) (cut2-at .cut2 .ensures) in
-    (D .sized, (omega (arith, if2-at .if2 .left, R .high), cut-order (a .w) (a .from) (a .to) (a .dx .plus) (a .dx .minus) _ _ (R .order) (cut-at .cut .ensures) (cut2-at .cut2 .ensures), cut-wide (a .w) (a .from) (a .to) (a .dx .plus) (a .dx .minus) _ _ (R .order) (cut-at .cut .ensures) (cut2-at .cut2 .ensures), D .earlier .0, omega (arith, s .pre .2, few)))
+    ((D .sized, D .tabled), (omega (arith, if2-at .if2 .left, R .high), cut-order (a .w) (a .from) (a .to) (a .dx .plus) (a .dx .minus) _ _ (R .order) (cut-at .cut .ensures) (cut2-at .cut2 .ensures), cut-wide (a .w) (a .from) (a .to) (a .dx .plus) (a .dx .minus) _ _ (R .order) (cut-at .cut .ensures) (cut2-at .cut2 .ensures), D .earlier .0, omega (arith, s .pre .2, few)))
 
 start-requires : tie.Need-start-requires
 start-requires c κs = search needs
 
 mul-hi : tie.Need-mul-hi
-mul-hi c = search needs
+mul-hi c =
+    let s = c .before .before .before .before .before .before .before .before .before .before .before .before .before .before .before .before .before in
+    omega (arith, s .pre .0 .sized .wide)
 
 add-hi : tie.Need-add-hi
-add-hi c = search needs
+add-hi c =
+    let s = c .before .before .before .before .before .before .before .before .before .before .before .before .before .before .before .before .before in
+    omega (arith, s .pre .0 .sized .wide, c .start .ensures .2)
 
 sub-shift-row : tie.Need-sub-shift-row
 sub-shift-row c = search needs
@@ -104,7 +108,7 @@ add-shift-row : tie.Need-add-shift-row
 unfolding Bounded
 add-shift-row c =
     let cut-at = c .before .before .before .before .before .before .before .before in
-    let s = cut-at .before .before .before .before .before .before .before .before .before in
+    let s = cut-at .before .before .before .before .before .before .before .before .before .before in
     let a = s .args in
     let D = s .pre .0 in
     let R = s .pre .1 in
@@ -118,7 +122,9 @@ part-shift-row-start : tie.Need-part-shift-row-start
 part-shift-row-start c = search needs
 
 part-shift-row-end : tie.Need-part-shift-row-end
-part-shift-row-end c = search needs
+part-shift-row-end c =
+    let s = c .before .before .before .before .before .before .before .before .before .before .before .before .before .before .before .before .before .before in
+    omega (arith, s .pre .0 .sized .workspace, c .before .start .ensures .1)
 
 shift-row-requires : tie.Need-shift-row-requires
 unfolding Bounded
@@ -127,7 +133,7 @@ shift-row-requires c κs =
     let load-at = start-at .before .before .before in
     let cut2-at = load-at .before .before .before in
     let cut-at = cut2-at .before in
-    let s = cut-at .before .before .before .before .before .before .before .before .before in
+    let s = cut-at .before .before .before .before .before .before .before .before .before .before in
     let a = s .args in
     let D = s .pre .0 in
     let R = s .pre .1 in
@@ -155,13 +161,13 @@ returns-3 c =
     let cut2-at = load-at .before .before .before in
     let cut-at = cut2-at .before in
     let if1-at = cut-at .before .before .before in
-    let s = if1-at .before .before .before .before .before .before in
+    let s = if1-at .before .before .before .before .before .before .before in
     let a = s .args in
     let D = s .pre .0 in
     let R = s .pre .1 in
     let fits : start-at .start .result + 4 * a .w ≤ length (a .workspace .now) = omega (arith, start-at .start .ensures .1, D .sized .workspace) in (
       painted-row (start-at .start .result) (a .w) (a .workspace .now) fits _ _ _ _ _ _ (start-at .start .ensures .0) (R .order) (R .wide)
-          (moved-shifted (a .dx) (a .dy) _ (a .w) (a .h) (a .y) _ (a .from) (a .to) _ _ _ _ (stands-blank _ _ _ _ (a .i)) (R .order) (cut-at .cut .ensures) (cut2-at .cut2 .ensures) (if1-at .if1 .left) refl (load-at .load .ensures))
+          (moved-shifted (a .dx) (a .dy) _ (a .w) (a .h) (a .y) _ (a .from) (a .to) _ _ _ _ (shown-blank (a .lens) _ _ _ _ (a .i)) (R .order) (cut-at .cut .ensures) (cut2-at .cut2 .ensures) (if1-at .if1 .left) refl (load-at .load .ensures))
           (shift-row-at .shift-row .ensures),
       record { long = load-at .load .ensures .long },
     )
@@ -171,10 +177,10 @@ paint-offset-spec =
     tie.close
     (tie.spec
     add-below
-    paint-flood-requires
+    paint-none-requires
     same-length
     returns
-    paint-flood-requires-2
+    paint-none-requires-2
     same-length-2
     returns-2
     add-cut

@@ -6,7 +6,7 @@ use lib.ListN.{length}
 use borrow.Author.Needs.{needs}
 use Rattle.pixel.specs.Arithmetic.{combined}
 use Rattle.filter.specs.Kinds.{work, reads}
-use Rattle.stage.specs.Buffers.{stands}
+use Rattle.stage.specs.Shown.{shown}
 use Rattle.draw_point.proofs.Strokes.{loaded-pixel, part-long, painted-into}
 use Rattle.draw_point.proofs.point.paint_combine.Statement.{statement}
 use Rattle.draw_point.proofs.point.paint_combine.Tie as tie
@@ -26,18 +26,18 @@ add-hi c = search needs
 load-requires : tie.Need-load-requires
 unfolding reads
 load-requires c κs =
-    let s = c .before .before .before .before .before .before .before .before in
+    let s = c .before .before .before .before .before .before .before .before .before in
     let D = s .pre .0 .0 in
     let R = s .pre .0 .1 in
-    (D .sized, (R .high, R .order, R .wide, D .earlier .0, omega (arith, s .pre .1 .1)))
+    ((D .sized, D .tabled), (R .high, R .order, R .wide, D .earlier .0, omega (arith, s .pre .1 .1)))
 
 load-requires-2 : tie.Need-load-requires-2
 unfolding reads
 load-requires-2 c κs =
-    let s = c .before .before .before .before .before .before .before .before .before .before .before .before .before in
+    let s = c .before .before .before .before .before .before .before .before .before .before .before .before .before .before in
     let D = s .pre .0 .0 in
     let R = s .pre .0 .1 in
-    (D .sized, (R .high, R .order, R .wide, D .earlier .1 .0, omega (arith, s .pre .1 .2)))
+    ((D .sized, D .tabled), (R .high, R .order, R .wide, D .earlier .1 .0, omega (arith, s .pre .1 .2)))
 
 sub-combine-row : tie.Need-sub-combine-row
 sub-combine-row c = search needs
@@ -48,7 +48,7 @@ part-combine-row-start c = search needs
 part-combine-row-end : tie.Need-part-combine-row-end
 part-combine-row-end c =
     let start-at = c .before .before .before .before .before .before .before .before .before .before .before .before in
-    let s = start-at .before .before .before .before .before .before in
+    let s = start-at .before .before .before .before .before .before .before in
     let D = s .pre .0 .0 in
     let R = s .pre .0 .1 in
     omega (arith, start-at .start .ensures .1, D .sized .workspace, R .order, R .wide)
@@ -58,7 +58,7 @@ combine-row-requires c κs =
     let load2-at = c .before .before .before .before .before in
     let load-at = load2-at .before .before .before .before .before in
     let start-at = load-at .before .before .before in
-    let s = start-at .before .before .before .before .before .before in
+    let s = start-at .before .before .before .before .before .before .before in
     let D = s .pre .0 .0 in
     let R = s .pre .0 .1 in
     let a = s .args in
@@ -81,11 +81,11 @@ returns c =
     let load2-at = combine-row-at .before .before .before .before .before .before in
     let load-at = load2-at .before .before .before .before .before in
     let start-at = load-at .before .before .before in
-    let s = start-at .before .before .before .before .before .before in
+    let s = start-at .before .before .before .before .before .before .before in
     let D = s .pre .0 .0 in
     let R = s .pre .0 .1 in
     let a = s .args in
-    let E = stands (a .w) (a .h) (a .source .now) (a .workspace .now) in
+    let E = shown (a .lens) (a .w) (a .h) (a .source .now) (a .workspace .now) in
     let fits : start-at .start .result + 4 * (a .to - a .from) ≤ length (a .workspace .now) = omega (arith, start-at .start .ensures .1, D .sized .workspace, R .order, R .wide) in (
       painted-into (start-at .start .result) (a .to - a .from) (a .workspace .now) fits _ _ _ _ _ _ (start-at .start .ensures .0) refl (R .order)
           (λ j l. ap₂ (combined (a .coefficients)) (loaded-pixel (E (a .i)) (a .y) (a .from) (a .to) _ _ (load-at .load .ensures) j l) (loaded-pixel (E (a .j)) (a .y) (a .from) (a .to) _ _ (load2-at .load2 .ensures) j l)) (combine-row-at .combine-row .ensures),

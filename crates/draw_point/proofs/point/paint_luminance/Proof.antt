@@ -6,7 +6,7 @@ use lib.ListN.{length}
 use borrow.Author.Needs.{needs}
 use Rattle.pixel.specs.Matrix.{luminance, transformed}
 use Rattle.filter.specs.Kinds.{work, reads}
-use Rattle.stage.specs.Buffers.{stands}
+use Rattle.stage.specs.Shown.{shown}
 use Rattle.draw_point.proofs.Strokes.{loaded-pixel, loaded-valid, part-long, painted-into}
 use Rattle.draw_point.proofs.point.paint_luminance.Statement.{statement}
 use Rattle.draw_point.proofs.point.paint_luminance.Tie as tie
@@ -26,10 +26,10 @@ add-hi c = search needs
 load-requires : tie.Need-load-requires
 unfolding reads
 load-requires c κs =
-    let s = c .before .before .before .before .before .before .before .before in
+    let s = c .before .before .before .before .before .before .before .before .before in
     let D = s .pre .0 .0 in
     let R = s .pre .0 .1 in
-    (D .sized, (R .high, R .order, R .wide, D .earlier .0, omega (arith, s .pre .1 .2)))
+    ((D .sized, D .tabled), (R .high, R .order, R .wide, D .earlier .0, omega (arith, s .pre .1 .2)))
 
 sub-luminance-row : tie.Need-sub-luminance-row
 sub-luminance-row c = search needs
@@ -45,7 +45,7 @@ unfolding reads
 luminance-row-requires c κs =
     let load-at = c .before .before .before .before in
     let start-at = load-at .before .before .before in
-    let s = start-at .before .before .before .before .before .before in
+    let s = start-at .before .before .before .before .before .before .before in
     let D = s .pre .0 .0 in
     let R = s .pre .0 .1 in
     let a = s .args in
@@ -64,11 +64,11 @@ returns c =
     let luminance-row-at = c .before .before in
     let load-at = luminance-row-at .before .before .before .before .before in
     let start-at = load-at .before .before .before in
-    let s = start-at .before .before .before .before .before .before in
+    let s = start-at .before .before .before .before .before .before .before in
     let D = s .pre .0 .0 in
     let R = s .pre .0 .1 in
     let a = s .args in
-    let E = stands (a .w) (a .h) (a .source .now) (a .workspace .now) in
+    let E = shown (a .lens) (a .w) (a .h) (a .source .now) (a .workspace .now) in
     let fits : start-at .start .result + 4 * (a .to - a .from) ≤ length (a .workspace .now) = omega (arith, start-at .start .ensures .1, D .sized .workspace, R .order, R .wide) in (
       painted-into (start-at .start .result) (a .to - a .from) (a .workspace .now) fits _ _ _ _ _ _ (start-at .start .ensures .0) refl (R .order)
           (λ j l. ap (transformed luminance) (loaded-pixel (E (a .i)) (a .y) (a .from) (a .to) _ _ (load-at .load .ensures) j l)) (luminance-row-at .luminance-row .ensures),

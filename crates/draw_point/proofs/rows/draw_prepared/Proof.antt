@@ -19,7 +19,7 @@ array-borrow-prefix-a c = search needs
 
 slice-aggregate-paint-rows : tie.Need-slice-aggregate-paint-rows
 slice-aggregate-paint-rows c =
-    let s = c .before .before .before .before .before .before .before .before .before in
+    let s = c .before .before .before .before .before .before .before .before .before .before in
     let a = s .args in
     let few : 4 * (a .rect .right - a .rect .left) ≤ longestRow = omega (arith, s .pre .3 .right, s .pre .0 .sized .wide) in
     prefix-long _ few
@@ -29,7 +29,7 @@ array-borrow-prefix-b c = search needs
 
 slice-aggregate-paint-rows-2 : tie.Need-slice-aggregate-paint-rows-2
 slice-aggregate-paint-rows-2 c =
-    let s = c .before .before .before .before .before .before .before .before .before .before in
+    let s = c .before .before .before .before .before .before .before .before .before .before .before in
     let a = s .args in
     let few : 4 * (a .rect .right - a .rect .left) ≤ longestRow = omega (arith, s .pre .3 .right, s .pre .0 .sized .wide) in
     prefix-long _ few
@@ -39,7 +39,7 @@ array-borrow-prefix-f c = search needs
 
 slice-aggregate-paint-rows-3 : tie.Need-slice-aggregate-paint-rows-3
 slice-aggregate-paint-rows-3 c =
-    let s = c .before .before .before .before .before .before .before .before .before .before .before in
+    let s = c .before .before .before .before .before .before .before .before .before .before .before .before in
     let a = s .args in
     let few : 4 * (a .rect .right - a .rect .left) ≤ longestRow = omega (arith, s .pre .3 .right, s .pre .0 .sized .wide) in
     prefix-long _ few
@@ -49,14 +49,14 @@ array-borrow-prefix-g c = search needs
 
 slice-aggregate-paint-rows-4 : tie.Need-slice-aggregate-paint-rows-4
 slice-aggregate-paint-rows-4 c =
-    let s = c .before .before .before .before .before .before .before .before .before .before .before .before in
+    let s = c .before .before .before .before .before .before .before .before .before .before .before .before .before in
     let a = s .args in
     let few : 4 * (a .rect .right - a .rect .left) ≤ longestRow = omega (arith, s .pre .3 .right, s .pre .0 .sized .wide) in
     prefix-long _ few
 
 paint-rows-requires : tie.Need-paint-rows-requires
 paint-rows-requires c κs =
-    let s = c .before .before .before .before .before .before .before .before .before .before .before .before in
+    let s = c .before .before .before .before .before .before .before .before .before .before .before .before .before in
     let a = s .args in
     let few : 4 * (a .rect .right - a .rect .left) ≤ longestRow = omega (arith, s .pre .3 .right, s .pre .0 .sized .wide) in
     let long = sym (prefix-long _ few) in

@@ -1,7 +1,7 @@
 -- `draw_point::rows::paint` meets its contract: the row of the kind that the primitive is known to be. Assumes nothing.
 use borrow.Author.Needs.{needs}
 use Rattle.filter.specs.Kinds.{work}
-use Rattle.stage.specs.Buffers.{stands}
+use Rattle.stage.specs.Shown.{shown}
 use Rattle.draw_point.specs.Pointwise.{Pointwise}
 use Rattle.draw_point.specs.Row.{Prepared}
 use Rattle.draw_point.proofs.Steps.{drawable-known, prepared-known, pointwise-known, painted-known}
@@ -20,10 +20,10 @@ enum-known-primitive-2 c = search needs
 paint-offset-requires : tie.Need-paint-offset-requires
 paint-offset-requires c κs =
     let primitive2-at = c .before .before .before in
-    let s = primitive2-at .before .before .before .before .before .before .before .before .before .before .before .before in
+    let s = primitive2-at .before .before .before .before .before .before .before .before .before .before .before .before .before in
     let a = s .args in
     let e = primitive2-at .primitive2 .given .1 in
-    (drawable-known (a .w) (a .h) _ _ e _ _ _ (s .pre .0 .0), s .pre .0 .3, s .pre .1 .0)
+    (drawable-known (a .w) (a .h) _ _ e _ _ _ _ _ (s .pre .0 .0), s .pre .0 .3, s .pre .1 .0)
 
 enum-known-primitive-3 : tie.Need-enum-known-primitive-3
 enum-known-primitive-3 c = search needs
@@ -32,11 +32,11 @@ paint-transform-requires : tie.Need-paint-transform-requires
 unfolding Prepared
 paint-transform-requires c κs =
     let primitive3-at = c .before .before .before in
-    let s = primitive3-at .before .before .before .before .before .before .before .before .before .before .before .before in
+    let s = primitive3-at .before .before .before .before .before .before .before .before .before .before .before .before .before in
     let a = s .args in
     let e = primitive3-at .primitive3 .given .1 in
     let q = prepared-known (a .w) (a .h) _ _ e _ _ _ _ (s .pre .0 .2) in
-    ((drawable-known (a .w) (a .h) _ _ e _ _ _ (s .pre .0 .0), s .pre .0 .3), (q .0, q .1, s .pre .1 .0))
+    ((drawable-known (a .w) (a .h) _ _ e _ _ _ _ _ (s .pre .0 .0), s .pre .0 .3), (q .0, q .1, s .pre .1 .0))
 
 enum-known-primitive-4 : tie.Need-enum-known-primitive-4
 enum-known-primitive-4 c = search needs
@@ -45,11 +45,11 @@ paint-luminance-requires : tie.Need-paint-luminance-requires
 unfolding Prepared
 paint-luminance-requires c κs =
     let primitive4-at = c .before .before .before in
-    let s = primitive4-at .before .before .before .before .before .before .before .before .before .before .before .before in
+    let s = primitive4-at .before .before .before .before .before .before .before .before .before .before .before .before .before in
     let a = s .args in
     let e = primitive4-at .primitive4 .given .1 in
     let q = prepared-known (a .w) (a .h) _ _ e _ _ _ _ (s .pre .0 .2) in
-    ((drawable-known (a .w) (a .h) _ _ e _ _ _ (s .pre .0 .0), s .pre .0 .3), (q .0, q .1, s .pre .1 .0))
+    ((drawable-known (a .w) (a .h) _ _ e _ _ _ _ _ (s .pre .0 .0), s .pre .0 .3), (q .0, q .1, s .pre .1 .0))
 
 enum-known-primitive-5 : tie.Need-enum-known-primitive-5
 enum-known-primitive-5 c = search needs
@@ -57,10 +57,10 @@ enum-known-primitive-5 c = search needs
 paint-composite-requires : tie.Need-paint-composite-requires
 paint-composite-requires c κs =
     let primitive5-at = c .before .before .before .before .before .before in
-    let s = primitive5-at .before .before .before .before .before .before .before .before .before .before .before .before in
+    let s = primitive5-at .before .before .before .before .before .before .before .before .before .before .before .before .before in
     let a = s .args in
     let e = primitive5-at .primitive5 .given .1 in
-    ((drawable-known (a .w) (a .h) _ _ e _ _ _ (s .pre .0 .0), s .pre .0 .3), s .pre .1)
+    ((drawable-known (a .w) (a .h) _ _ e _ _ _ _ _ (s .pre .0 .0), s .pre .0 .3), s .pre .1)
 
 enum-known-primitive-6 : tie.Need-enum-known-primitive-6
 enum-known-primitive-6 c = search needs
@@ -69,11 +69,11 @@ paint-combine-requires : tie.Need-paint-combine-requires
 unfolding Prepared
 paint-combine-requires c κs =
     let primitive6-at = c .before .before .before .before in
-    let s = primitive6-at .before .before .before .before .before .before .before .before .before .before .before .before in
+    let s = primitive6-at .before .before .before .before .before .before .before .before .before .before .before .before .before in
     let a = s .args in
     let e = primitive6-at .primitive6 .given .1 in
     let q = prepared-known (a .w) (a .h) _ _ e _ _ _ _ (s .pre .0 .2) in
-    ((drawable-known (a .w) (a .h) _ _ e _ _ _ (s .pre .0 .0), s .pre .0 .3), (q, s .pre .1 .0, s .pre .1 .1))
+    ((drawable-known (a .w) (a .h) _ _ e _ _ _ _ _ (s .pre .0 .0), s .pre .0 .3), (q, s .pre .1 .0, s .pre .1 .1))
 
 enum-known-primitive-7 : tie.Need-enum-known-primitive-7
 enum-known-primitive-7 c = search needs
@@ -81,10 +81,10 @@ enum-known-primitive-7 c = search needs
 paint-merge-requires : tie.Need-paint-merge-requires
 paint-merge-requires c κs =
     let primitive7-at = c .before .before .before .before .before in
-    let s = primitive7-at .before .before .before .before .before .before .before .before .before .before .before .before in
+    let s = primitive7-at .before .before .before .before .before .before .before .before .before .before .before .before .before in
     let a = s .args in
     let e = primitive7-at .primitive7 .given .1 in
-    ((drawable-known (a .w) (a .h) _ _ e _ _ _ (s .pre .0 .0), s .pre .0 .3), (s .pre .1 .0, s .pre .1 .3, s .pre .1 .1))
+    ((drawable-known (a .w) (a .h) _ _ e _ _ _ _ _ (s .pre .0 .0), s .pre .0 .3), (s .pre .1 .0, s .pre .1 .3, s .pre .1 .1))
 
 enum-told : tie.Need-enum-told
 enum-told c = search needs
@@ -92,7 +92,7 @@ enum-told c = search needs
 returns : tie.Need-returns
 unfolding Pointwise
 returns c =
-    let s = c .before .before .before .before .before .before .before .before .before .before .before .before in
+    let s = c .before .before .before .before .before .before .before .before .before .before .before .before .before in
     let a = s .args in
     absurd (pointwise-known (a .w) (a .h) _ _ (c .enum-told .given .1) (s .pre .0 .1))
 
@@ -102,7 +102,7 @@ enum-told-2 c = search needs
 returns-2 : tie.Need-returns-2
 unfolding Pointwise
 returns-2 c =
-    let s = c .before .before .before .before .before .before .before .before .before .before .before .before in
+    let s = c .before .before .before .before .before .before .before .before .before .before .before .before .before in
     let a = s .args in
     absurd (pointwise-known (a .w) (a .h) _ _ (c .enum-told2 .given .1) (s .pre .0 .1))
 
@@ -112,7 +112,7 @@ enum-told-3 c = search needs
 returns-3 : tie.Need-returns-3
 unfolding Pointwise
 returns-3 c =
-    let s = c .before .before .before .before .before .before .before .before .before .before .before .before in
+    let s = c .before .before .before .before .before .before .before .before .before .before .before .before .before in
     let a = s .args in
     absurd (pointwise-known (a .w) (a .h) _ _ (c .enum-told3 .given .1) (s .pre .0 .1))
 
@@ -124,9 +124,9 @@ unfolding work
 returns-4 c =
     let paint-flood-at = c .before .before in
     let primitive-at = paint-flood-at .before .before .before in
-    let s = primitive-at .before .before .before .before .before .before .before .before .before .before .before .before in
+    let s = primitive-at .before .before .before .before .before .before .before .before .before .before .before .before .before in
     let a = s .args in
-    let E = stands (a .w) (a .h) (a .source .now) (a .workspace .now) in
+    let E = shown (a .lens) (a .w) (a .h) (a .src .now) (a .ws .now) in
     painted-known (a .w) (a .h) _ _ (primitive-at .primitive .given .1) E _ (a .y) _ _ _ _ (paint-flood-at .paint-flood .ensures)
 
 same-length-2 : tie.Need-same-length-2
@@ -139,9 +139,9 @@ returns-5 : tie.Need-returns-5
 returns-5 c =
     let paint-offset-at = c .before .before .before .before in
     let primitive2-at = paint-offset-at .before .before .before .before in
-    let s = primitive2-at .before .before .before .before .before .before .before .before .before .before .before .before in
+    let s = primitive2-at .before .before .before .before .before .before .before .before .before .before .before .before .before in
     let a = s .args in
-    let E = stands (a .w) (a .h) (a .source .now) (a .workspace .now) in
+    let E = shown (a .lens) (a .w) (a .h) (a .src .now) (a .ws .now) in
     painted-known (a .w) (a .h) _ _ (primitive2-at .primitive2 .given .1) E _ (a .y) _ _ _ _ (paint-offset-at .paint-offset .ensures .0)
 
 same-length-4 : tie.Need-same-length-4
@@ -154,9 +154,9 @@ returns-6 : tie.Need-returns-6
 returns-6 c =
     let paint-transform-at = c .before .before .before .before in
     let primitive3-at = paint-transform-at .before .before .before .before in
-    let s = primitive3-at .before .before .before .before .before .before .before .before .before .before .before .before in
+    let s = primitive3-at .before .before .before .before .before .before .before .before .before .before .before .before .before in
     let a = s .args in
-    let E = stands (a .w) (a .h) (a .source .now) (a .workspace .now) in
+    let E = shown (a .lens) (a .w) (a .h) (a .src .now) (a .ws .now) in
     painted-known (a .w) (a .h) _ _ (primitive3-at .primitive3 .given .1) E _ (a .y) _ _ _ _ (paint-transform-at .paint-transform .ensures .0)
 
 same-length-6 : tie.Need-same-length-6
@@ -169,9 +169,9 @@ returns-7 : tie.Need-returns-7
 returns-7 c =
     let paint-luminance-at = c .before .before .before .before in
     let primitive4-at = paint-luminance-at .before .before .before .before in
-    let s = primitive4-at .before .before .before .before .before .before .before .before .before .before .before .before in
+    let s = primitive4-at .before .before .before .before .before .before .before .before .before .before .before .before .before in
     let a = s .args in
-    let E = stands (a .w) (a .h) (a .source .now) (a .workspace .now) in
+    let E = shown (a .lens) (a .w) (a .h) (a .src .now) (a .ws .now) in
     painted-known (a .w) (a .h) _ _ (primitive4-at .primitive4 .given .1) E _ (a .y) _ _ _ _ (paint-luminance-at .paint-luminance .ensures .0)
 
 same-length-8 : tie.Need-same-length-8
@@ -193,9 +193,9 @@ returns-8 : tie.Need-returns-8
 returns-8 c =
     let paint-composite-at = c .before .before .before .before .before .before .before .before .before .before in
     let primitive5-at = paint-composite-at .before .before .before .before .before .before .before in
-    let s = primitive5-at .before .before .before .before .before .before .before .before .before .before .before .before in
+    let s = primitive5-at .before .before .before .before .before .before .before .before .before .before .before .before .before in
     let a = s .args in
-    let E = stands (a .w) (a .h) (a .source .now) (a .workspace .now) in
+    let E = shown (a .lens) (a .w) (a .h) (a .src .now) (a .ws .now) in
     painted-known (a .w) (a .h) _ _ (primitive5-at .primitive5 .given .1) E _ (a .y) _ _ _ _ (paint-composite-at .paint-composite .ensures .0)
 
 same-length-13 : tie.Need-same-length-13
@@ -211,9 +211,9 @@ returns-9 : tie.Need-returns-9
 returns-9 c =
     let paint-combine-at = c .before .before .before .before .before .before in
     let primitive6-at = paint-combine-at .before .before .before .before .before in
-    let s = primitive6-at .before .before .before .before .before .before .before .before .before .before .before .before in
+    let s = primitive6-at .before .before .before .before .before .before .before .before .before .before .before .before .before in
     let a = s .args in
-    let E = stands (a .w) (a .h) (a .source .now) (a .workspace .now) in
+    let E = shown (a .lens) (a .w) (a .h) (a .src .now) (a .ws .now) in
     painted-known (a .w) (a .h) _ _ (primitive6-at .primitive6 .given .1) E _ (a .y) _ _ _ _ (paint-combine-at .paint-combine .ensures .0)
 
 same-length-16 : tie.Need-same-length-16
@@ -232,9 +232,9 @@ returns-10 : tie.Need-returns-10
 returns-10 c =
     let paint-merge-at = c .before .before .before .before .before .before .before .before in
     let primitive7-at = paint-merge-at .before .before .before .before .before .before in
-    let s = primitive7-at .before .before .before .before .before .before .before .before .before .before .before .before in
+    let s = primitive7-at .before .before .before .before .before .before .before .before .before .before .before .before .before in
     let a = s .args in
-    let E = stands (a .w) (a .h) (a .source .now) (a .workspace .now) in
+    let E = shown (a .lens) (a .w) (a .h) (a .src .now) (a .ws .now) in
     painted-known (a .w) (a .h) _ _ (primitive7-at .primitive7 .given .1) E _ (a .y) _ _ _ _ (paint-merge-at .paint-merge .ensures .0)
 
 pub paint-spec : {M : Type 1} → statement M

@@ -8,7 +8,7 @@ use borrow.Author.Needs.{needs}
 use Rattle.pixel.proofs.Painting.{painted-as}
 use Rattle.filter.specs.Picture.{Picture}
 use Rattle.filter.specs.Kinds.{work}
-use Rattle.stage.specs.Buffers.{stands}
+use Rattle.stage.specs.Shown.{shown}
 use Rattle.stage.specs.Drawn.{Drawn, band}
 use Rattle.stage.proofs.Rows.{drawn-none, drawn-as, drawn-more}
 use Rattle.draw_point.proofs.Steps.{drawable-later, work-later}
@@ -16,35 +16,35 @@ use Rattle.draw_point.proofs.rows.paint_rows.Statement.{statement}
 use Rattle.draw_point.proofs.rows.paint_rows.Tie as tie
 
 abbrev Inv-loop : tie.InvT-loop
-Inv-loop workspace₀ source w h n primitive sums products luma inverse a₀ b₀ f₀ g₀ left right top bottom y₀ workspace a b f g y =
-    (top ≤ y) × (y ≤ max top bottom) × Drawn w h n (band left right top y) (work w h primitive (stands w h source workspace₀)) workspace₀ workspace
+Inv-loop workspace₀ source w h n lens pairs primitive sums products luma inverse a₀ b₀ f₀ g₀ left right top bottom y₀ workspace a b f g y =
+    (top ≤ y) × (y ≤ max top bottom) × Drawn w h n (band left right top y) (work w h primitive (shown lens w h source workspace₀)) workspace₀ workspace
     × (length a ≡ 4 * (right - left)) × (length b ≡ 4 * (right - left)) × (length f ≡ 4 * (right - left)) × (length g ≡ 4 * (right - left))
 
 abbrev μ-loop : tie.MeasureT-loop
-μ-loop workspace₀ source w h n primitive sums products luma inverse a₀ b₀ f₀ g₀ left right top bottom y₀ workspace a b f g y =
+μ-loop workspace₀ source w h n lens pairs primitive sums products luma inverse a₀ b₀ f₀ g₀ left right top bottom y₀ workspace a b f g y =
     bottom - y
 
 loop-holds : tie.Need-loop-holds Inv-loop μ-loop
 loop-holds c =
-    let s = c .before .before .before .before .before .before .before .before .before .before in
+    let s = c .before .before .before .before .before .before .before .before .before .before .before in
     (omega arith, omega arith, drawn-none _ _ _ _ _ _ (λ x y i. absurd (omega (arith, i .top, i .bottom))), s .pre .1 .0, s .pre .1 .1, s .pre .1 .2, s .pre .1 .3)
 
 paint-requires : tie.Need-paint-requires Inv-loop μ-loop
 paint-requires c κs =
     let loop-test-at = c .before .before .before .before .before in
     let loop-at = loop-test-at .before in
-    let s = loop-at .before .before .before .before .before .before .before .before .before .before .before in
+    let s = loop-at .before .before .before .before .before .before .before .before .before .before .before .before in
     let a = s .args in
     let L = loop-at .loop in
     let I = L .inv in
-    let D = drawable-later (a .w) (a .h) (a .n) _ _ (a .source .now) (a .workspace .now) (L .workspace) (a .primitive) (I .2) (s .pre .0 .0) in
+    let D = drawable-later (a .w) (a .h) (a .n) _ _ (a .lens) (a .source .now) (a .workspace .now) (L .workspace) (a .pairs .now) (a .primitive) (I .2) (s .pre .0 .0) in
     let high : L .y < a .h = omega (arith, loop-test-at .loop-test .taken, s .pre .0 .3 .bottom) in
     ((D, s .pre .0 .1, s .pre .0 .2, record { high = high; order = s .pre .0 .4; wide = s .pre .0 .3 .right }), (I .3, I .4, I .5, I .6))
 
 add-y : tie.Need-add-y Inv-loop μ-loop
 add-y c =
     let loop-test-at = c .before .before .before .before .before .before .before .before .before .before .before .before .before .before .before .before in
-    let s = loop-test-at .before .before .before .before .before .before .before .before .before .before .before .before in
+    let s = loop-test-at .before .before .before .before .before .before .before .before .before .before .before .before .before in
     omega (arith, loop-test-at .loop-test .taken, s .pre .0 .3 .bottom, s .pre .0 .0 .sized .high)
 
 loop-less : tie.Need-loop-less Inv-loop μ-loop
@@ -55,19 +55,19 @@ loop-again c =
     let paint-at = c .before .before .before .before .before .before .before .before .before .before in
     let loop-test-at = paint-at .before .before .before .before .before .before in
     let loop-at = loop-test-at .before in
-    let s = loop-at .before .before .before .before .before .before .before .before .before .before .before in
+    let s = loop-at .before .before .before .before .before .before .before .before .before .before .before .before in
     let a = s .args in
     let L = loop-at .loop in
     let I = L .inv in
-    let same = work-later (a .w) (a .h) (a .n) _ _ (a .source .now) (a .workspace .now) (L .workspace) (a .primitive) (I .2) (s .pre .0 .0) in
+    let same = work-later (a .w) (a .h) (a .n) _ _ (a .lens) (a .source .now) (a .workspace .now) (L .workspace) (a .pairs .now) (a .primitive) (I .2) (s .pre .0 .0) in
     let high : L .y < a .h = omega (arith, loop-test-at .loop-test .taken, s .pre .0 .3 .bottom) in (
       omega (arith, I .0),
       omega (arith, loop-test-at .loop-test .taken, I .1),
       drawn-more _ _ _ _ _ _ _ _ _ _ _ (I .2) (painted-as _ _ _ _ _ _ _ (λ x l m. ap (λ (p : Picture). p x (L .y)) same) (paint-at .paint .ensures)) (I .0) (s .pre .0 .4) (s .pre .0 .3 .right) high,
-      paint-at .paint .kept .1 .1 .1 .1 .1 .1 .1 .1 .1 .1 .1 .1 .1 .0 ∙ I .3,
-      paint-at .paint .kept .1 .1 .1 .1 .1 .1 .1 .1 .1 .1 .1 .1 .1 .1 .0 ∙ I .4,
-      paint-at .paint .kept .1 .1 .1 .1 .1 .1 .1 .1 .1 .1 .1 .1 .1 .1 .1 .0 ∙ I .5,
-      paint-at .paint .kept .1 .1 .1 .1 .1 .1 .1 .1 .1 .1 .1 .1 .1 .1 .1 .1 .0 ∙ I .6,
+      paint-at .paint .kept .1 .1 .1 .1 .1 .1 .1 .1 .1 .1 .1 .1 .1 .1 .1 .0 ∙ I .3,
+      paint-at .paint .kept .1 .1 .1 .1 .1 .1 .1 .1 .1 .1 .1 .1 .1 .1 .1 .1 .0 ∙ I .4,
+      paint-at .paint .kept .1 .1 .1 .1 .1 .1 .1 .1 .1 .1 .1 .1 .1 .1 .1 .1 .1 .0 ∙ I .5,
+      paint-at .paint .kept .1 .1 .1 .1 .1 .1 .1 .1 .1 .1 .1 .1 .1 .1 .1 .1 .1 .1 .0 ∙ I .6,
     )
 
 same-length : tie.Need-same-length Inv-loop μ-loop
@@ -79,28 +79,28 @@ same-length c =
 same-length-2 : tie.Need-same-length-2 Inv-loop μ-loop
 same-length-2 c =
     let loop-at = c .before in
-    let s = loop-at .before .before .before .before .before .before .before .before .before .before .before in
+    let s = loop-at .before .before .before .before .before .before .before .before .before .before .before .before in
     let L = loop-at .loop in
     L .inv .3 ∙ sym (s .pre .1 .0)
 
 same-length-3 : tie.Need-same-length-3 Inv-loop μ-loop
 same-length-3 c =
     let loop-at = c .before in
-    let s = loop-at .before .before .before .before .before .before .before .before .before .before .before in
+    let s = loop-at .before .before .before .before .before .before .before .before .before .before .before .before in
     let L = loop-at .loop in
     L .inv .4 ∙ sym (s .pre .1 .1)
 
 same-length-4 : tie.Need-same-length-4 Inv-loop μ-loop
 same-length-4 c =
     let loop-at = c .before in
-    let s = loop-at .before .before .before .before .before .before .before .before .before .before .before in
+    let s = loop-at .before .before .before .before .before .before .before .before .before .before .before .before in
     let L = loop-at .loop in
     L .inv .5 ∙ sym (s .pre .1 .2)
 
 same-length-5 : tie.Need-same-length-5 Inv-loop μ-loop
 same-length-5 c =
     let loop-at = c .before in
-    let s = loop-at .before .before .before .before .before .before .before .before .before .before .before in
+    let s = loop-at .before .before .before .before .before .before .before .before .before .before .before .before in
     let L = loop-at .loop in
     L .inv .6 ∙ sym (s .pre .1 .3)
 

@@ -2,6 +2,7 @@
 use native.Mathlib.Omega.{arith}
 use borrow.Author.Needs.{needs}
 use Rattle.stage.proofs.Agree.{valid-agree}
+use Rattle.stage.proofs.Shown.{shown-valid}
 use Rattle.layers.proofs.Regions.{sized-same, cleared-agree, render-stood}
 use Rattle.layers.proofs.steps.render_step.Statement.{statement}
 use Rattle.layers.proofs.steps.render_step.Tie as tie
@@ -21,11 +22,11 @@ draw-requires c κs =
     let k = l .before .before in
     let s = k .before .before .before .before .before in
     let a = s .args in
-    let ok = s .pre .3 in
+    let ok = s .pre .1 .0 in
     let C = l .clear-around .ensures in (
-      sized-same _ _ _ _ _ _ (C .long) (s .pre .0),
-      s .pre .1,
-      valid-agree (a .n) _ _ (cleared-agree _ _ _ _ _ _ C (a .source .now)) (s .pre .2),
+      sized-same _ _ _ _ _ _ (C .long) (s .pre .0 .0),
+      s .pre .0 .1,
+      shown-valid (a .lens) (a .w) (a .h) (a .source .now) (a .n) _ (valid-agree (a .n) _ _ (cleared-agree _ _ _ _ _ _ C (a .source .now)) (s .pre .0 .2)),
       rw (k .before .resolve .ensures) (ok .inputs),
       rw (k .before .resolve .ensures) (ok .numbers),
       rw (k .bounds .ensures) (record { right = omega (arith, ok .region .right); bottom = omega (arith, ok .region .bottom) }),
@@ -44,7 +45,7 @@ returns c =
     let k = l .before .before in
     let s = k .before .before .before .before .before in
     let a = s .args in (
-      render-stood (a .w) (a .h) (a .n) (a .step) (a .source .now) _ _ _ (s .pre .3)
+      render-stood (a .w) (a .h) (a .n) (a .lens) (a .step) (a .source .now) _ _ _ (s .pre .1 .1) (s .pre .1 .0)
           (rw (k .bounds .ensures) at (l .clear-around .ensures))
           (rw (k .bounds .ensures, k .before .resolve .ensures) at (d .draw .ensures .0)),
       d .draw .ensures .1,

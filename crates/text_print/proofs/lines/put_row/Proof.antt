@@ -1,19 +1,19 @@
 -- `text_print::lines::put_row` meets its contract. The loop keeps that x pixels are stored after the word. Assumes nothing.
 use mathlib.Core.Path.{refl}
-use Prim.Native.Nat.{_+_, _-_, _*_}
+use Prim.Native.Nat.{_-_}
 use native.Mathlib.Omega.{arith}
 use borrow.Author.Needs.{needs}
-use Rattle.pixel.specs.Bytes.{pixelAt}
+use Rattle.text_print.specs.Code.{rowFrom}
 use Rattle.text_print.proofs.Fields.{row-put, cells, cell-length}
 use Rattle.text_print.proofs.Puts.{putting-end, Putting, putting-none, putting-room, putting-more, putting-all}
 use Rattle.text_print.proofs.lines.put_row.Statement.{statement}
 use Rattle.text_print.proofs.lines.put_row.Tie as tie
 
 abbrev Inv-loop : tie.InvT-loop
-Inv-loop out₀ at w layer from end₀ x₀ out end x = Putting (cells (λ j. pixelAt layer (from + 4 * j))) 9 w end₀ out₀ out end x
+Inv-loop out₀ at w layer space from end₀ x₀ out end x = Putting (cells (rowFrom space layer from)) 9 w end₀ out₀ out end x
 
 abbrev μ-loop : tie.MeasureT-loop
-μ-loop out₀ at w layer from end₀ x₀ out end x = w - x
+μ-loop out₀ at w layer space from end₀ x₀ out end x = w - x
 
 slice-aggregate-put-word : tie.Need-slice-aggregate-put-word Inv-loop μ-loop
 slice-aggregate-put-word c = search needs

@@ -3,20 +3,20 @@ use Prim.Native.Nat.{_+_, _-_, _*_}
 use native.Mathlib.Omega.{arith}
 use borrow.Author.Needs.{needs}
 use Rattle.filter.specs.Bytes.{read}
-use Rattle.text_print.specs.Output.{rowLines}
+use Rattle.text_print.specs.Output.{rowLines, inSrgb}
 use Rattle.text_print.proofs.Puts.{Putting, putting-none, putting-room, putting-more, putting-all}
 use Rattle.text_print.proofs.Fields.{rows, rows-length, row-read, row-end, lines-length}
 use Rattle.text_print.proofs.lines.put_rows.Statement.{statement}
 use Rattle.text_print.proofs.lines.put_rows.Tie as tie
 
 abbrev Inv-loop : tie.InvT-loop
-Inv-loop out₀ at w h layer end₀ y₀ out end y = Putting (rows w h layer) (9 * w + 4) h end₀ out₀ out end y
+Inv-loop out₀ at w h layer space end₀ y₀ out end y = Putting (rows w h layer space) (9 * w + 4) h end₀ out₀ out end y
 
 abbrev μ-loop : tie.MeasureT-loop
-μ-loop out₀ at w h layer end₀ y₀ out end y = h - y
+μ-loop out₀ at w h layer space end₀ y₀ out end y = h - y
 
 loop-holds : tie.Need-loop-holds Inv-loop μ-loop
-loop-holds c = let s = c .before .before in putting-none _ _ _ _ _ (rows-length _ _ _) (omega (arith, lines-length (s .args .w) (s .args .h) (read (s .args .w) (s .args .h) (s .args .layer .now) 0)))
+loop-holds c = let s = c .before .before in putting-none _ _ _ _ _ (rows-length _ _ _ _) (omega (arith, lines-length (s .args .w) (s .args .h) (inSrgb (s .args .space) (read (s .args .w) (s .args .h) (s .args .layer .now) 0))))
 
 mul-put-row : tie.Need-mul-put-row Inv-loop μ-loop
 mul-put-row c = let s = c .before .before .before .before .before in omega (arith, row-end (s .args .w) (s .args .h) (c .before .before .loop .y) (search needs))
@@ -36,7 +36,7 @@ loop-less : tie.Need-loop-less Inv-loop μ-loop
 loop-less c = search needs
 
 loop-again : tie.Need-loop-again Inv-loop μ-loop
-loop-again c = putting-more _ _ _ _ _ _ _ _ (c .before .before .before .before .before .loop .inv) (search needs) _ _ _ (row-read _ _ _ _ (search needs)) (search needs) (c .before .before .put-row .ensures)
+loop-again c = putting-more _ _ _ _ _ _ _ _ (c .before .before .before .before .before .loop .inv) (search needs) _ _ _ (row-read _ _ _ _ _ (search needs)) (search needs) (c .before .before .put-row .ensures)
 
 same-length : tie.Need-same-length Inv-loop μ-loop
 same-length c = search needs

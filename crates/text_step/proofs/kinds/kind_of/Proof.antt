@@ -1,4 +1,4 @@
--- `text_step::kinds::kind_of` meets its contract. The word, the bytes and the count of fields. Assumes nothing.
+-- `text_step::kinds::kind_of` meets its contract. The word, the bytes and the count of inputs. Assumes nothing.
 use mathlib.Core.Path.{_∙_}
 use Rattle.text_step.specs.Kinds.{kindOf}
 use borrow.Author.Needs.{needs}
@@ -17,8 +17,8 @@ byte-at-requires-2 c κs = search needs
 byte-at-requires-3 : tie.Need-byte-at-requires-3
 byte-at-requires-3 c κs = search needs
 
-after-region-requires : tie.Need-after-region-requires
-after-region-requires c κs = search needs
+merge-inputs-requires : tie.Need-merge-inputs-requires
+merge-inputs-requires c κs = search needs
 
 kind-named-requires : tie.Need-kind-named-requires
 kind-named-requires c κs = search needs
@@ -35,6 +35,6 @@ kind-of-spec =
     byte-at-requires
     byte-at-requires-2
     byte-at-requires-3
-    after-region-requires
+    merge-inputs-requires
     kind-named-requires
     returns)

@@ -11,13 +11,13 @@ both-requires-2 : tie.Need-both-requires-2
 both-requires-2 c κs = search needs
 
 returns : tie.Need-returns
-returns c = assembled-good _ _ _ _ _ (c .before .before .before .before .both .ensures) (c .before .before .before .both2 .ensures) (c .before .before .if1 .taken)
+returns c = assembled-good _ _ _ _ _ _ (c .before .before .before .before .both .ensures) (c .before .before .before .both2 .ensures) (c .before .before .if1 .taken)
 
 no-step-requires : tie.Need-no-step-requires
 no-step-requires c κs = search needs
 
 returns-2 : tie.Need-returns-2
-returns-2 c = assembled-bad _ _ _ _ _ (c .before .before .before .both .ensures) (c .before .before .both2 .ensures) (c .before .if1 .left) (c .no-step .ensures)
+returns-2 c = assembled-bad _ _ _ _ _ _ (c .before .before .before .both .ensures) (c .before .before .both2 .ensures) (c .before .if1 .left) (c .no-step .ensures)
 
 pub assemble-spec : {M : Type 1} → statement M
 assemble-spec =

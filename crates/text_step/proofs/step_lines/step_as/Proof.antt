@@ -1,10 +1,10 @@
 -- `text_step::step_lines::step_as` meets its contract. A sound kind has at most 4 inputs, so that the count of fields fits. Assumes nothing.
-use mathlib.Core.Path.{sym, _∙_}
+use mathlib.Core.Path.{refl, sym, _∙_}
 use borrow.Author.Tests.{not-true, not-false}
-use Rattle.text_field.specs.Split.{split}
-use Rattle.text_step.proofs.Assembled.{sound-inputs, few-bytes, as-unsound, as-long, as-good}
-use borrow.Author.Needs.{needs}
 use native.Mathlib.Omega.{arith}
+use Rattle.text_step.proofs.Closed.{closed-long}
+use Rattle.text_step.proofs.Assembled.{few-fields, as-unsound, as-open, as-good}
+use borrow.Author.Needs.{needs}
 use Rattle.text_step.proofs.step_lines.step_as.Statement.{statement}
 use Rattle.text_step.proofs.step_lines.step_as.Tie as tie
 
@@ -26,20 +26,33 @@ input-count-requires c κs = search needs
 number-count-requires : tie.Need-number-count-requires
 number-count-requires c κs = search needs
 
-add-if2 : tie.Need-add-if2
-add-if2 c = omega (arith, sound-inputs (c .before .before .before .before .before .before .args .kind) (split 9 (c .before .before .before .before .before .before .args .line .now)) (sym (c .before .before .before .before .is-sound .ensures) ∙ not-false _ (c .before .before .before .if1 .left)), few-bytes (c .before .before .before .before .before .before .args .kind), c .before .before .byte-count .ensures, c .before .input-count .ensures, c .number-count .ensures .1)
+add-fields : tie.Need-add-fields
+add-fields c =
+    let f = few-fields (c .before .before .before .before .before .before .args .kind) _ (c .before .before .before .before .is-sound .ensures) (not-false _ (c .before .before .before .if1 .left)) (c .before .before .byte-count .ensures) (c .before .input-count .ensures) (c .number-count .ensures) in
+    omega (arith, f .1)
 
-add-if2-2 : tie.Need-add-if2-2
-add-if2-2 c = omega (arith, sound-inputs (c .before .before .before .before .before .before .args .kind) (split 9 (c .before .before .before .before .before .before .args .line .now)) (sym (c .before .before .before .before .is-sound .ensures) ∙ not-false _ (c .before .before .before .if1 .left)), few-bytes (c .before .before .before .before .before .before .args .kind), c .before .before .byte-count .ensures, c .before .input-count .ensures, c .number-count .ensures .1)
+add-fields-2 : tie.Need-add-fields-2
+add-fields-2 c =
+    let f = few-fields (c .before .before .before .before .before .before .args .kind) _ (c .before .before .before .before .is-sound .ensures) (not-false _ (c .before .before .before .if1 .left)) (c .before .before .byte-count .ensures) (c .before .input-count .ensures) (c .number-count .ensures) in
+    omega (arith, f .1)
 
-add-if2-3 : tie.Need-add-if2-3
-add-if2-3 c = omega (arith, sound-inputs (c .before .before .before .before .before .before .args .kind) (split 9 (c .before .before .before .before .before .before .args .line .now)) (sym (c .before .before .before .before .is-sound .ensures) ∙ not-false _ (c .before .before .before .if1 .left)), few-bytes (c .before .before .before .before .before .before .args .kind), c .before .before .byte-count .ensures, c .before .input-count .ensures, c .number-count .ensures .1)
+add-fields-3 : tie.Need-add-fields-3
+add-fields-3 c =
+    let f = few-fields (c .before .before .before .before .before .before .args .kind) _ (c .before .before .before .before .is-sound .ensures) (not-false _ (c .before .before .before .if1 .left)) (c .before .before .byte-count .ensures) (c .before .input-count .ensures) (c .number-count .ensures) in
+    omega (arith, f .1)
+
+is-closed-requires : tie.Need-is-closed-requires
+is-closed-requires c κs =
+    let f = few-fields (c .before .before .before .before .before .before .args .kind) _ (c .before .before .before .before .is-sound .ensures) (not-false _ (c .before .before .before .if1 .left)) (c .before .before .byte-count .ensures) (c .before .input-count .ensures) (c .number-count .ensures) in
+    (c .before .before .before .before .before .before .pre, f .1)
 
 no-step-requires-2 : tie.Need-no-step-requires-2
 no-step-requires-2 c κs = search needs
 
 returns-2 : tie.Need-returns-2
-returns-2 c = as-long _ _ (c .before .before .before .before .before .before .is-sound .ensures) (c .before .before .before .before .before .before .before .before .pre) (c .before .before .before .before .byte-count .ensures) (c .before .before .before .input-count .ensures) (c .before .before .number-count .ensures .0) (c .before .if2 .taken) (c .no-step2 .ensures)
+returns-2 c =
+    let p = c .before .before .before in
+    as-open _ _ (p .before .before .before .before .is-sound .ensures) (p .before .before .byte-count .ensures) (p .before .input-count .ensures) (p .number-count .ensures .0) refl (c .before .before .is-closed .ensures) (not-true _ (c .before .if2 .taken)) (c .no-step2 .ensures)
 
 region-given-requires : tie.Need-region-given-requires
 region-given-requires c κs = search needs
@@ -48,25 +61,45 @@ region-of-requires : tie.Need-region-of-requires
 region-of-requires c κs = search needs
 
 add-wires-of : tie.Need-add-wires-of
-add-wires-of c = omega (arith, sound-inputs (c .before .before .before .before .before .before .before .before .before .args .kind) (split 9 (c .before .before .before .before .before .before .before .before .before .args .line .now)) (sym (c .before .before .before .before .before .before .before .is-sound .ensures) ∙ not-false _ (c .before .before .before .before .before .before .if1 .left)), few-bytes (c .before .before .before .before .before .before .before .before .before .args .kind), c .before .before .before .before .before .byte-count .ensures, c .before .before .before .before .input-count .ensures, c .before .before .before .number-count .ensures .1)
+add-wires-of c =
+    let p = c .before .before .before .before in
+    let f = few-fields (p .before .before .before .before .before .before .args .kind) _ (p .before .before .before .before .is-sound .ensures) (not-false _ (p .before .before .before .if1 .left)) (p .before .before .byte-count .ensures) (p .before .input-count .ensures) (p .number-count .ensures) in
+    omega (arith, f .1)
 
 wires-of-requires : tie.Need-wires-of-requires
-wires-of-requires c κs = (omega (arith, sound-inputs (c .before .before .before .before .before .before .before .before .before .args .kind) (split 9 (c .before .before .before .before .before .before .before .before .before .args .line .now)) (sym (c .before .before .before .before .before .before .before .is-sound .ensures) ∙ not-false _ (c .before .before .before .before .before .before .if1 .left)), few-bytes (c .before .before .before .before .before .before .before .before .before .args .kind), c .before .before .before .before .before .byte-count .ensures, c .before .before .before .before .input-count .ensures, c .before .before .before .number-count .ensures .1), omega (arith, c .before .before .before .before .before .before .before .before .before .pre, c .before .before .if2 .left))
+wires-of-requires c κs =
+    let p = c .before .before .before .before in
+    let f = few-fields (p .before .before .before .before .before .before .args .kind) _ (p .before .before .before .before .is-sound .ensures) (not-false _ (p .before .before .before .if1 .left)) (p .before .before .byte-count .ensures) (p .before .input-count .ensures) (p .number-count .ensures) in
+    let l = closed-long _ _ (sym (c .before .before .before .is-closed .ensures) ∙ not-false _ (c .before .before .if2 .left)) in
+    (f .0, omega (arith, l))
 
 add-operands-of : tie.Need-add-operands-of
-add-operands-of c = omega (arith, sound-inputs (c .before .before .before .before .before .before .before .before .before .before .args .kind) (split 9 (c .before .before .before .before .before .before .before .before .before .before .args .line .now)) (sym (c .before .before .before .before .before .before .before .before .is-sound .ensures) ∙ not-false _ (c .before .before .before .before .before .before .before .if1 .left)), few-bytes (c .before .before .before .before .before .before .before .before .before .before .args .kind), c .before .before .before .before .before .before .byte-count .ensures, c .before .before .before .before .before .input-count .ensures, c .before .before .before .before .number-count .ensures .1)
+add-operands-of c =
+    let p = c .before .before .before .before .before in
+    let f = few-fields (p .before .before .before .before .before .before .args .kind) _ (p .before .before .before .before .is-sound .ensures) (not-false _ (p .before .before .before .if1 .left)) (p .before .before .byte-count .ensures) (p .before .input-count .ensures) (p .number-count .ensures) in
+    omega (arith, f .1)
 
 add-operands-of-2 : tie.Need-add-operands-of-2
-add-operands-of-2 c = omega (arith, sound-inputs (c .before .before .before .before .before .before .before .before .before .before .args .kind) (split 9 (c .before .before .before .before .before .before .before .before .before .before .args .line .now)) (sym (c .before .before .before .before .before .before .before .before .is-sound .ensures) ∙ not-false _ (c .before .before .before .before .before .before .before .if1 .left)), few-bytes (c .before .before .before .before .before .before .before .before .before .before .args .kind), c .before .before .before .before .before .before .byte-count .ensures, c .before .before .before .before .before .input-count .ensures, c .before .before .before .before .number-count .ensures .1)
+add-operands-of-2 c =
+    let p = c .before .before .before .before .before in
+    let f = few-fields (p .before .before .before .before .before .before .args .kind) _ (p .before .before .before .before .is-sound .ensures) (not-false _ (p .before .before .before .if1 .left)) (p .before .before .byte-count .ensures) (p .before .input-count .ensures) (p .number-count .ensures) in
+    omega (arith, f .1)
 
 operands-of-requires : tie.Need-operands-of-requires
-operands-of-requires c κs = (omega (arith, c .before .before .before .before .number-count .ensures .1), omega (arith, c .before .before .before .before .before .before .before .before .before .before .pre, c .before .before .before .if2 .left))
+operands-of-requires c κs =
+    let l = closed-long _ _ (sym (c .before .before .before .before .is-closed .ensures) ∙ not-false _ (c .before .before .before .if2 .left)) in
+    (c .before .before .before .before .before .number-count .ensures .1, l)
+
+space-at-requires : tie.Need-space-at-requires
+space-at-requires c κs = search needs
 
 assemble-requires : tie.Need-assemble-requires
 assemble-requires c κs = search needs
 
 returns-3 : tie.Need-returns-3
-returns-3 c = as-good _ _ (c .before .before .before .before .before .before .before .before .before .before .is-sound .ensures) (c .before .before .before .before .before .before .before .before .before .before .before .before .pre) (c .before .before .before .before .before .before .before .before .byte-count .ensures) (c .before .before .before .before .before .before .before .input-count .ensures) (c .before .before .before .before .before .before .number-count .ensures .0) (not-false _ (c .before .before .before .before .before .before .before .before .before .if1 .left)) (c .before .before .before .before .before .if2 .left) (c .before .before .before .before .region-given .ensures) (c .before .before .before .region-of .ensures) (c .before .before .wires-of .ensures) (c .before .operands-of .ensures) (c .assemble .ensures)
+returns-3 c =
+    let p = c .before .before .before .before .before .before .before .before in
+    as-good _ _ (p .before .before .before .before .is-sound .ensures) (p .before .before .byte-count .ensures) (p .before .input-count .ensures) (p .number-count .ensures .0) refl (c .before .before .before .before .before .before .before .is-closed .ensures) (not-false _ (p .before .before .before .if1 .left)) (not-false _ (c .before .before .before .before .before .before .if2 .left)) (c .before .before .before .before .before .region-given .ensures) (c .before .before .before .before .region-of .ensures) (c .before .before .before .wires-of .ensures) (c .before .before .operands-of .ensures) (c .before .space-at .ensures) (c .assemble .ensures)
 
 pub step-as-spec : {M : Type 1} → statement M
 step-as-spec =
@@ -78,9 +111,10 @@ step-as-spec =
     byte-count-requires
     input-count-requires
     number-count-requires
-    add-if2
-    add-if2-2
-    add-if2-3
+    add-fields
+    add-fields-2
+    add-fields-3
+    is-closed-requires
     no-step-requires-2
     returns-2
     region-given-requires
@@ -90,5 +124,6 @@ step-as-spec =
     add-operands-of
     add-operands-of-2
     operands-of-requires
+    space-at-requires
     assemble-requires
     returns-3)

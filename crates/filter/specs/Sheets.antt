@@ -1,0 +1,41 @@
+-- A step as an effect, with what its sheet tells of its inputs: the working space that each is kept in. Assumes nothing.
+use Prim.Native.Nat.{ℕ}
+use mathlib.Core.List.{List}
+use Rattle.pixel.specs.declared.Space as S
+use Rattle.pixel.specs.declared.Space.the-variants.{Srgb}
+use Rattle.pixel.specs.Convert.{converted}
+use Rattle.filter.specs.declared.Input as I
+use Rattle.filter.specs.declared.Input.the-variants.{Source, SourceAlpha, Layer}
+use Rattle.filter.specs.declared.Rect.{Rect}
+use Rattle.filter.specs.declared.Step.{Step}
+use Rattle.filter.specs.Rect.{boundsOf, canvasOf, meet}
+use Rattle.filter.specs.Effect.{Env, Effect}
+use Rattle.filter.specs.Layers.{reached}
+use Rattle.filter.specs.Kinds.{work, reads}
+use Rattle.filter.specs.Steps.{resolved, stepAt}
+
+-- "The source is sRGB. A layer is kept in its step's space"
+unfoldable pub spaceOf : List Step → I.Input → S.Space
+spaceOf steps Source = Srgb
+spaceOf steps SourceAlpha = Srgb
+spaceOf steps (Layer n) = stepAt steps n .space
+
+-- "converted when a step of the other space reads it": the inputs as a step of the space s reads them
+abbrev pub seen : (I.Input → S.Space) → S.Space → Env → Env
+seen spaces s E i x y = converted (spaces i) s (E i x y)
+
+-- a step as an effect on a canvas of w by h, its inputs kept in these spaces
+unfoldable pub effectOf : ℕ → ℕ → (I.Input → S.Space) → Step → Effect
+effectOf w h spaces s = record {
+  work = λ E. work w h (resolved s) (seen spaces (s .space) E);
+  reads = reads (resolved s);
+  region = boundsOf (s .region);
+}
+
+-- step n of a sheet
+abbrev pub effectsOf : ℕ → ℕ → List Step → ℕ → Effect
+effectsOf w h steps n = effectOf w h (spaceOf steps) (stepAt steps n)
+
+-- a step's redraw rectangle from those of its inputs, in whatever spaces these are kept
+abbrev pub damageOf : ℕ → ℕ → Step → (I.Input → Rect) → Rect
+damageOf w h s z = meet (meet (canvasOf w h) (boundsOf (s .region))) (reached (reads (resolved s)) z)

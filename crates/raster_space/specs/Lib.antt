@@ -1,0 +1,3 @@
+-- The table of a conversion between working spaces.
+pub mod Pairs
+pub mod Code
