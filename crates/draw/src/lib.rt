@@ -19,7 +19,7 @@ use draw_morph::draw_extreme;
 use draw_point::draw_rows;
 use filter::Primitive;
 use filter::Rect;
-use raster_morph::Extreme;
+use raster_fold::Extreme;
 use stage::Lens;
 
 // Step n inside one rectangle of its layer, its inputs converted by the table t of its space, or without one where t is empty.

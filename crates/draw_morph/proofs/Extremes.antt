@@ -6,9 +6,10 @@ use native.Mathlib.Nat.{min-zero}
 use native.Mathlib.Numerals.{add-one}
 use native.Mathlib.Omega.{arith}
 use Rattle.window.specs.Window.{fold, column}
-use Rattle.raster_morph.specs.declared.Extreme.{Extreme}
-use Rattle.raster_morph.specs.declared.Extreme.the-variants.{Least, Largest}
-use Rattle.raster_morph.specs.Operation.{operation, start, extreme}
+use Rattle.raster_fold.specs.declared.Extreme.{Extreme}
+use Rattle.raster_fold.specs.declared.Extreme.the-variants.{Least, Largest}
+use Rattle.raster_fold.specs.Operation.{operation}
+use Rattle.raster_morph.specs.Extremes.{start, extreme}
 use Rattle.raster_morph.specs.Ranges.{PingPong}
 use Rattle.filter.specs.declared.Input.{Input}
 use Rattle.filter.specs.Effect.{Env}

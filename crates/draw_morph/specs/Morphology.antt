@@ -1,7 +1,7 @@
 -- Erode and dilate (RULES 5.5, 5.6) as one operation. Assumes nothing.
 use Prim.Native.Nat.{ℕ}
-use Rattle.raster_morph.specs.declared.Extreme.{Extreme}
-use Rattle.raster_morph.specs.declared.Extreme.the-variants.{Least, Largest}
+use Rattle.raster_fold.specs.declared.Extreme.{Extreme}
+use Rattle.raster_fold.specs.declared.Extreme.the-variants.{Least, Largest}
 use Rattle.filter.specs.declared.Input.{Input}
 use Rattle.filter.specs.declared.Primitive.{Primitive}
 use Rattle.filter.specs.declared.Primitive.the-variants as P

@@ -20,7 +20,7 @@ ghost use Rattle.draw_morph.specs.Extremes.{extremes};
 use draw_window::reached;
 use filter::Input;
 use filter::Rect;
-use raster_morph::Extreme;
+use raster_fold::Extreme;
 use stage::Lens;
 
 // What a result looks at along a line: the places from `back` before it to `ahead` behind it.

@@ -3,7 +3,9 @@ use Prim.Native.Nat.{ℕ, _≤_, _<_}
 use mathlib.Core.Bool.{cond}
 use mathlib.Core.List.{List}
 use lib.Dec.{eqb}
-use Rattle.raster_color.specs.Tables.{Combines, Mixes, Weighs, Unpremultiplies}
+use Rattle.raster_alpha.specs.Tables.{Unpremultiplies, Weighs}
+use Rattle.raster_arithmetic.specs.Tables.{Combines}
+use Rattle.raster_color.specs.Tables.{Mixes}
 use Rattle.filter.specs.declared.Input.{Input}
 use Rattle.filter.specs.declared.Inputs.{Inputs}
 use Rattle.filter.specs.declared.Primitive.{Primitive}

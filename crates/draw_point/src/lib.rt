@@ -79,7 +79,7 @@ fn draw_transform(
     let luma = [0u32; 1];
     let mut inverse = [0u32; 512];
     raster_color::matrix::prepare(matrix, &mut products);
-    raster_color::unpremultiply::prepare(&mut inverse);
+    raster_alpha::unpremultiply::prepare(&mut inverse);
     let primitive = Primitive::Transform(i, matrix);
     draw_prepared(
         workspace,
@@ -116,8 +116,8 @@ fn draw_luminance(
     let products = [0u64; 1];
     let mut luma = [0u32; 768];
     let mut inverse = [0u32; 512];
-    raster_color::luminance::prepare(&mut luma);
-    raster_color::unpremultiply::prepare(&mut inverse);
+    raster_alpha::luminance::prepare(&mut luma);
+    raster_alpha::unpremultiply::prepare(&mut inverse);
     let primitive = Primitive::Luminance(i);
     draw_prepared(
         workspace,
@@ -156,7 +156,7 @@ fn draw_combine(
     let products = [0u64; 1];
     let luma = [0u32; 1];
     let inverse = [0u32; 1];
-    raster_color::arithmetic::prepare(coefficients, &mut sums);
+    raster_arithmetic::prepare(coefficients, &mut sums);
     let primitive = Primitive::Combine(coefficients, i, j);
     draw_prepared(
         workspace,

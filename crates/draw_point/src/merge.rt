@@ -55,7 +55,7 @@ fn lay(
     ensures { λ _. ⌜ Painted (λ x. composited op.Over (shown lens w h (now (source .entry)) (now (workspace .entry)) i (from + x) y) (pixelAt (now (under .entry)) (4 * x))) 0 0 (to - from) (now (under .entry)) (now (under .exit)) × ValidRow (now (under .exit)) (to - from) ⌝ }
 {
     stage::load(workspace, source, w, h, n, lens, pairs, i, y, from, to, a);
-    raster::composite::over_onto(&a[..], g, under, to - from);
+    raster_composite::over_onto(&a[..], g, under, to - from);
 }
 
 // The inputs' rows, each laid over those before it.

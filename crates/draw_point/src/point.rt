@@ -4,7 +4,9 @@ ghost use Prim.Native.Nat.{_+_, _-_, _*_, _≤_, _<_};
 ghost use lib.ListN.{length};
 ghost use Rattle.window.specs.Store.{WorkBuffer};
 ghost use Rattle.pixel.specs.Bytes.{Painted};
-ghost use Rattle.raster_color.specs.Tables.{Combines, Mixes, Weighs, Unpremultiplies};
+ghost use Rattle.raster_alpha.specs.Tables.{Unpremultiplies, Weighs};
+ghost use Rattle.raster_arithmetic.specs.Tables.{Combines};
+ghost use Rattle.raster_color.specs.Tables.{Mixes};
 ghost use Rattle.filter.specs.declared.Primitive.the-variants as P;
 ghost use Rattle.filter.specs.Kinds.{work};
 ghost use Rattle.filter.specs.Bytes.{size};
@@ -102,7 +104,7 @@ pub fn paint_composite(
         to,
         b,
     );
-    raster::composite::composite_row(op, &a[..], &b[..], f, g, &mut workspace[lo..hi], count);
+    raster_composite::composite_row(op, &a[..], &b[..], f, g, &mut workspace[lo..hi], count);
 }
 
 pub fn paint_combine(
@@ -159,7 +161,7 @@ pub fn paint_combine(
         to,
         b,
     );
-    raster_color::arithmetic::combine_row(
+    raster_arithmetic::combine_row(
         coefficients,
         sums,
         &a[..],
@@ -256,5 +258,5 @@ pub fn paint_luminance(
         to,
         a,
     );
-    raster_color::luminance::luminance_row(luma, inverse, &a[..], &mut workspace[lo..hi], count);
+    raster_alpha::luminance::luminance_row(luma, inverse, &a[..], &mut workspace[lo..hi], count);
 }

@@ -8,8 +8,8 @@ use Rattle.pixel.specs.declared.Operator.{Operator}
 use Rattle.pixel.specs.declared.Operator.the-variants.{Over, In, Out, Atop, Xor}
 use Rattle.pixel.specs.declared.Space.{Space}
 use Rattle.pixel.specs.declared.Space.the-variants.{Srgb, Linear}
-use Rattle.raster_morph.specs.declared.Extreme.{Extreme}
-use Rattle.raster_morph.specs.declared.Extreme.the-variants.{Least, Largest}
+use Rattle.raster_fold.specs.declared.Extreme.{Extreme}
+use Rattle.raster_fold.specs.declared.Extreme.the-variants.{Least, Largest}
 
 -- over, in, out, atop, xor: 0 to 4
 abbrev pub operatorAt : ℕ → Operator

@@ -6,7 +6,9 @@ ghost use Rattle.pixel.specs.Arithmetic.{combined};
 ghost use Rattle.pixel.specs.Bytes.{pixelAt, Painted, ValidRow};
 ghost use Rattle.pixel.specs.Matrix.{transformed, saturation, luminance};
 ghost use Rattle.pixel.specs.Coefficient.{AllowedArithmetic, AllowedMatrix};
-ghost use Rattle.raster_color.specs.Tables.{Combines, Mixes, Unpremultiplies, Weighs};
+ghost use Rattle.raster_alpha.specs.Tables.{Unpremultiplies, Weighs};
+ghost use Rattle.raster_arithmetic.specs.Tables.{Combines};
+ghost use Rattle.raster_color.specs.Tables.{Mixes};
 ghost use Rattle.window.specs.Limits.{longestSide};
 ghost use Rattle.kernels.specs.Named.{arithmetic};
 use number::Fixed;
@@ -56,7 +58,7 @@ pub extern "C" fn twillgoose_kernel_prepare_arithmetic(
     requires { ⌜ (k1 ≤ 16777216) × (k2 ≤ 16777216) × (k3 ≤ 16777216) × (k4 ≤ 16777216) × (length (now table) ≡ 65536) ⌝ }
     ensures { λ _. ⌜ Combines (arithmetic k1 k2 k3 k4) (now (table .exit)) ⌝ }
 {
-    raster_color::arithmetic::prepare(arithmetic_of(k1, k2, k3, k4), table);
+    raster_arithmetic::prepare(arithmetic_of(k1, k2, k3, k4), table);
 }
 
 #[no_mangle]
@@ -75,7 +77,7 @@ pub extern "C" fn twillgoose_kernel_combine_row(
     requires { ⌜ (length (now a) ≡ 4 * n) × (length (now b) ≡ 4 * n) × (length (now dst) ≡ 4 * n) ⌝ }
     ensures { λ _. ⌜ Painted (λ x. combined (arithmetic k1 k2 k3 k4) (pixelAt (now (a .entry)) (4 * x)) (pixelAt (now (b .entry)) (4 * x))) 0 0 n (now (dst .entry)) (now (dst .exit)) ⌝ }
 {
-    raster_color::arithmetic::combine_row(arithmetic_of(k1, k2, k3, k4), table, a, b, dst, n);
+    raster_arithmetic::combine_row(arithmetic_of(k1, k2, k3, k4), table, a, b, dst, n);
 }
 
 #[no_mangle]
@@ -83,7 +85,7 @@ pub extern "C" fn twillgoose_kernel_prepare_unpremultiply(table: &mut [u32])
     requires { ⌜ length (now table) ≡ 512 ⌝ }
     ensures { λ _. ⌜ Unpremultiplies (now (table .exit)) ⌝ }
 {
-    raster_color::unpremultiply::prepare(table);
+    raster_alpha::unpremultiply::prepare(table);
 }
 
 #[no_mangle]
@@ -115,7 +117,7 @@ pub extern "C" fn twillgoose_kernel_prepare_luminance(table: &mut [u32])
     requires { ⌜ length (now table) ≡ 768 ⌝ }
     ensures { λ _. ⌜ Weighs (now (table .exit)) ⌝ }
 {
-    raster_color::luminance::prepare(table);
+    raster_alpha::luminance::prepare(table);
 }
 
 #[no_mangle]
@@ -129,5 +131,5 @@ pub extern "C" fn twillgoose_kernel_luminance_row(
     requires { ⌜ Weighs (now table) × Unpremultiplies (now inverse) × (length (now src) ≡ 4 * n) × (length (now dst) ≡ 4 * n) × ValidRow (now src) n ⌝ }
     ensures { λ _. ⌜ Painted (λ x. transformed luminance (pixelAt (now (src .entry)) (4 * x))) 0 0 n (now (dst .entry)) (now (dst .exit)) ⌝ }
 {
-    raster_color::luminance::luminance_row(table, inverse, src, dst, n);
+    raster_alpha::luminance::luminance_row(table, inverse, src, dst, n);
 }

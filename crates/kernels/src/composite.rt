@@ -41,5 +41,5 @@ pub extern "C" fn twillgoose_kernel_composite_row(
     ensures { λ _. ⌜ Painted (λ x. composited (operatorAt op) (pixelAt (now (a .entry)) (4 * x)) (pixelAt (now (b .entry)) (4 * x))) 0 0 n (now (dst .entry)) (now (dst .exit)) ⌝ }
     ensures { λ _. ⌜ WorkBuffer (now (f .entry)) (now (f .exit)) × WorkBuffer (now (g .entry)) (now (g .exit)) ⌝ }
 {
-    raster::composite::composite_row(operator_at(op), a, b, f, g, dst, n);
+    raster_composite::composite_row(operator_at(op), a, b, f, g, dst, n);
 }

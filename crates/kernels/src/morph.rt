@@ -3,11 +3,11 @@ ghost use mathlib.Core.Path.{_≡_};
 ghost use Prim.Native.Nat.{_+_, _*_, _≤_, _<_};
 ghost use lib.ListN.{length};
 ghost use Rattle.window.specs.Window.{column};
-ghost use Rattle.raster_morph.specs.Operation.{extreme};
+ghost use Rattle.raster_morph.specs.Extremes.{extreme};
 ghost use Rattle.window.specs.Ranges.{Apart};
 ghost use Rattle.raster_morph.specs.Ranges.{PingPong};
 ghost use Rattle.kernels.specs.Named.{extremeOf};
-use raster_morph::Extreme;
+use raster_fold::Extreme;
 
 fn extreme_of(largest: bool) -> Extreme
     ensures { λ r. ⌜ r ≡ extremeOf largest ⌝ }

@@ -10,7 +10,7 @@ use Rattle.window.specs.Window.{column, mean, box, passes, passesOf}
 use Rattle.window.proofs.Store.{lt-or-le, lined-outside}
 use Rattle.raster_blur.specs.Blurred.{Blurred}
 use Rattle.window.proofs.Band.{within-in}
-use Rattle.raster_blur.proofs.Lines.{lined-column}
+use Rattle.raster_sums.proofs.Lines.{lined-column}
 
 -- the passes by the parity of d, as the code has it
 passes-boxes : (count d e short : ℕ) (f : ℕ → ℕ) → 2 ≤ d → e ≡ d / 2 → short ≡ e - (1 - d % 2) → passes count d f ≡ box count e e (box count short e (box count e short f))

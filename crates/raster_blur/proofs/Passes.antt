@@ -6,31 +6,17 @@ use mathlib.Core.Logic.{⊎-elim}
 use native.Mathlib.Nat.{mul-le-mul-right}
 use native.Mathlib.Omega.{arith}
 use lib.ListN.{getD}
-use mir.Syntax.{w8}
-use mir.Val.{Fits}
 use Rattle.window.specs.Store.{Filled, Lined}
 use Rattle.window.specs.Window.{behind, mean}
 use Rattle.window.proofs.Store.{lt-or-le}
-use Rattle.raster_blur.specs.declared.pass.Pass.{Pass}
-use Rattle.raster_blur.specs.Running.{rounded, columns, Ready, Sums, Advanced}
-use Rattle.raster_blur.proofs.Ranges.{filled-as, filled-then}
+use Rattle.raster_sums.specs.declared.running.Pass.{Pass}
+use Rattle.raster_sums.specs.Running.{rounded, columns, Sums}
+use Rattle.raster_sums.proofs.Ranges.{filled-as, filled-then}
 use Rattle.window.proofs.Numbers.{line-end}
-use Rattle.raster_blur.proofs.Lines.{column-in, column-lt, kept-column}
-use Rattle.window.proofs.Band.{behind-in}
-use Rattle.raster_blur.proofs.Slide.{running-slide, rounded-mean, rounded-le}
-
--- each element is a byte, as the borrow checker has it
-abbrev pub Bytes : List ℕ → Type 0
-Bytes d = (i : ℕ) → Fits w8 (getD d i 0)
-
-module _ (p : Pass) (d : List ℕ) (bytes : Bytes d) where
-  pub columns-lt : (i v : ℕ) → columns p d i v < 256
-  columns-lt i v = column-lt d (p .from) (p .n) (p .count) i (λ j. omega (arith, bytes j)) v
-
--- the line that is behind the window at y
-pub leaving : (p : Pass) (d : List ℕ) (i y : ℕ) → p .back < y → y < p .count → behind (p .back + 1) (columns p d i) y ≡ getD d (p .from + (y - p .back - 1) * p .n + i) 0
-leaving p d i y h l =
-    behind-in (p .back + 1) (columns p d i) y (omega arith) ∙ ap (columns p d i) (omega arith) ∙ column-in d (p .from) (p .n) (p .count) i (y - p .back - 1) (omega arith)
+use Rattle.raster_sums.proofs.Lines.{column-in, kept-column}
+use Rattle.raster_sums.proofs.Slide.{running-slide, rounded-mean, rounded-le}
+use Rattle.raster_sums.proofs.Columns.{Bytes, columns-lt, leaving}
+use Rattle.raster_blur.specs.Advance.{Ready, Advanced}
 
 -- the sum of column i after line y
 abbrev pub next : Pass → List ℕ → ℕ → ℕ → ℕ

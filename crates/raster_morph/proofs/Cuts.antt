@@ -3,26 +3,14 @@ use mathlib.Core.Path.{_≡_, ap, ap₂, _∙_}
 use mathlib.Core.Logic.{_⊎_, inl, inr, ⊎-elim}
 use Prim.Native.Nat.{ℕ, _+_, _-_, _≤_, _<_, min, max}
 use native.Mathlib.Omega.{arith}
-use borrow.Author.Tests.{lt-ltb, le-ltb}
 use Rattle.window.specs.Window.{fold}
 use Rattle.window.proofs.Band.{fold-same}
 use Rattle.window.proofs.Store.{lt-or-le}
-use Rattle.raster_morph.specs.Growth.{cut, earlier, later}
-use Rattle.raster_morph.proofs.Folds.{Semilattice, fold-join, between}
-
-pub earlier-is : (s v : ℕ) → ((v < s) × (earlier s v ≡ v)) ⊎ ((s ≤ v) × (earlier s v ≡ v - s))
-unfolding earlier
-earlier-is s v = ⊎-elim (λ h. inl (h, simp (lt-ltb v s h))) (λ h. inr (h, simp (le-ltb v s h))) (lt-or-le v s)
-
-pub later-is : (t count v : ℕ) → ((v + t < count) × (later t count v ≡ v + t)) ⊎ ((count ≤ v + t) × (later t count v ≡ v))
-unfolding later
-later-is t count v = ⊎-elim (λ h. inl (h, simp (lt-ltb (v + t) count h))) (λ h. inr (h, simp (le-ltb (v + t) count h))) (lt-or-le (v + t) count)
-
-pub earlier-in : (s count v : ℕ) → v < count → earlier s v < count
-earlier-in s count v h = ⊎-elim (λ (e : (v < s) × (earlier s v ≡ v)). omega arith) (λ (e : (s ≤ v) × (earlier s v ≡ v - s)). omega arith) (earlier-is s v)
-
-pub later-in : (t count v : ℕ) → v < count → later t count v < count
-later-in t count v h = ⊎-elim (λ (e : (v + t < count) × (later t count v ≡ v + t)). omega arith) (λ (e : (count ≤ v + t) × (later t count v ≡ v)). omega arith) (later-is t count v)
+use Rattle.raster_fold.specs.Lines.{earlier, later}
+use Rattle.raster_fold.proofs.Operations.{Semilattice, between}
+use Rattle.raster_fold.proofs.Neighbours.{earlier-is, later-is}
+use Rattle.raster_morph.specs.Growth.{cut}
+use Rattle.raster_morph.proofs.Folds.{fold-join}
 
 module _ (op : ℕ → ℕ → ℕ) (e : ℕ) (S : Semilattice op) (f : ℕ → ℕ) where
   -- the places lo up to hi
@@ -73,7 +61,7 @@ module _ (op : ℕ → ℕ → ℕ) (e : ℕ) (S : Semilattice op) (f : ℕ → 
         let right : op (cut op e p q count f v) (cut op e p q count f (later t count v)) ≡ cut op e p (q + t) count f v =
         let z : p + 0 ≡ p = omega arith in
         rw (self-before, z) at (cut-grow count p q 0 t v among (omega arith) ht (omega arith)) in
-        between op e S (cut op e p q count f (earlier s v)) (cut op e p q count f v) (cut op e p q count f (later t count v))
+        between op S (cut op e p q count f (earlier s v)) (cut op e p q count f v) (cut op e p q count f (later t count v))
         ∙ ap₂ op left right ∙ sides-join
 
 -- a window of one line

@@ -7,22 +7,13 @@ use borrow.Author.Tests.{lt-ltb, le-ltb, le-leb, lt-leb}
 use Rattle.window.specs.Window.{behind, within, least, largest}
 use Rattle.window.proofs.Band.{fold-same}
 use Rattle.window.proofs.Store.{lt-or-le}
-use Rattle.raster_morph.specs.declared.Extreme.{Extreme}
-use Rattle.raster_morph.specs.declared.Extreme.the-variants.{Least, Largest}
-use Rattle.raster_morph.specs.Operation.{operation, start, extreme}
+use Rattle.raster_fold.specs.declared.Extreme.{Extreme}
+use Rattle.raster_fold.specs.declared.Extreme.the-variants.{Least, Largest}
+use Rattle.raster_fold.specs.Operation.{operation}
+use Rattle.raster_fold.proofs.Operations.{min-lattice, max-lattice}
+use Rattle.raster_morph.specs.Extremes.{start, extreme}
 use Rattle.raster_morph.specs.Growth.{cut, edged}
-use Rattle.raster_morph.proofs.Folds.{Semilattice, fold-absorb, fold-trim}
-
-pub min-lattice : Semilattice min
-min-lattice = record { assoc = λ x y z. omega arith; comm = λ x y. omega arith; idem = λ x. omega arith }
-
-pub max-lattice : Semilattice max
-max-lattice = record { assoc = λ x y z. omega arith; comm = λ x y. omega arith; idem = λ x. omega arith }
-
-pub lattice : (op : Extreme) → Semilattice (operation op)
-unfolding operation
-lattice Least = min-lattice
-lattice Largest = max-lattice
+use Rattle.raster_morph.proofs.Folds.{fold-absorb, fold-trim}
 
 -- every byte replaces the start
 pub start-byte : (op : Extreme) (x : ℕ) → x < 256 → operation op (start op) x ≡ x

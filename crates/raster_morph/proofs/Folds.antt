@@ -5,39 +5,21 @@ use Prim.Native.Nat.{ℕ, zero, suc, _+_, _≤_, _<_, max}
 use native.Mathlib.Omega.{arith}
 use Rattle.window.specs.Window.{fold}
 use Rattle.window.proofs.Store.{lt-or-le}
-
-pub record Semilattice (op : ℕ → ℕ → ℕ) : Type 0 where
-  pub assoc : (x y z : ℕ) → op (op x y) z ≡ op x (op y z)
-  pub comm : (x y : ℕ) → op x y ≡ op y x
-  pub idem : (x : ℕ) → op x x ≡ x
+use Rattle.raster_fold.proofs.Operations.{Semilattice, twice, swap}
 
 module _ (op : ℕ → ℕ → ℕ) (e : ℕ) (S : Semilattice op) where
-  -- x taken in twice is x taken in once
-  pub twice : (x y : ℕ) → op (op x y) y ≡ op x y
-  twice x y = S .assoc x y y ∙ ap (op x) (S .idem y)
-
-  swap : (x y z : ℕ) → op (op x y) z ≡ op (op x z) y
-  swap x y z = S .assoc x y z ∙ ap (op x) (S .comm y z) ∙ sym (S .assoc x z y)
-
-  pub again-first : (x y : ℕ) → op (op x y) x ≡ op x y
-  again-first x y = swap x y x ∙ ap (λ (k : ℕ). op k y) (S .idem x)
-
-  -- y between x and z may be taken in once or twice
-  pub between : (x y z : ℕ) → op (op x z) y ≡ op (op x y) (op y z)
-  between x y z = swap x z y ∙ ap (λ (k : ℕ). op k z) (sym (twice x y)) ∙ S .assoc _ y z
-
   -- the start is in every fold already, and so is each term
   pub fold-start : (n : ℕ) (f : ℕ → ℕ) → op (fold op e n f) e ≡ fold op e n f
   unfolding fold
   fold-start zero f = S .idem e
-  fold-start (suc n) f = swap _ _ _ ∙ ap (λ (x : ℕ). op x (f n)) (fold-start n f)
+  fold-start (suc n) f = swap op S _ _ _ ∙ ap (λ (x : ℕ). op x (f n)) (fold-start n f)
 
   pub fold-absorb : (n t : ℕ) (f : ℕ → ℕ) → t < n → op (fold op e n f) (f t) ≡ fold op e n f
   unfolding fold
   fold-absorb zero t f h = absurd (omega arith)
   fold-absorb (suc n) t f h = ⊎-elim
-      (λ l. swap _ _ _ ∙ ap (λ (x : ℕ). op x (f n)) (fold-absorb n t f l))
-      (λ l. let q : t ≡ n = omega arith in rw q (twice _ _))
+      (λ l. swap op S _ _ _ ∙ ap (λ (x : ℕ). op x (f n)) (fold-absorb n t f l))
+      (λ l. let q : t ≡ n = omega arith in rw q (twice op S _ _))
       (lt-or-le t n)
 
   -- f 0 .. f (m - 1) and f a .. f (a + n - 1), which overlap or touch

@@ -10,14 +10,15 @@ use lib.ListN.{getD}
 use Rattle.window.specs.Store.{Filled, Lined, byteAt}
 use Rattle.window.specs.Window.{column}
 use Rattle.window.proofs.Store.{lt-or-le, lined-outside}
-use Rattle.raster_morph.specs.declared.Extreme.{Extreme}
-use Rattle.raster_morph.specs.declared.Extreme.the-variants.{Least, Largest}
-use Rattle.raster_morph.specs.Operation.{operation, start, extreme}
+use Rattle.raster_fold.specs.declared.Extreme.{Extreme}
+use Rattle.raster_fold.specs.declared.Extreme.the-variants.{Least, Largest}
+use Rattle.raster_fold.specs.Operation.{operation}
+use Rattle.raster_fold.proofs.Lines.{line-in}
+use Rattle.raster_morph.specs.Extremes.{start, extreme}
 use Rattle.raster_morph.specs.Ranges.{PingPong}
 use Rattle.raster_morph.specs.Growth.{windows, edged, edgedLine, Widened}
 use Rattle.raster_morph.proofs.Cuts.{cut-one, cut-limit}
 use Rattle.raster_morph.proofs.Edges.{start-byte, extreme-cut}
-use Rattle.raster_morph.proofs.Lines.{line-in}
 
 -- each line is its own window
 pub pingpong-start : (op : Extreme) (a b n count : ℕ) (d : List ℕ) → ((j : ℕ) → getD d j 0 < 256) → PingPong (windows op d a n count 0 0) a b n count a d d

@@ -5,11 +5,14 @@ use Prim.Native.Nat.{ℕ, _+_, _-_, _≤_, _<_}
 use native.Mathlib.Omega.{arith}
 use Rattle.window.specs.Store.{Lined}
 use Rattle.window.proofs.Store.{lined-outside}
-use Rattle.raster_morph.specs.declared.Extreme.{Extreme}
-use Rattle.raster_morph.specs.Operation.{operation, start}
-use Rattle.raster_morph.specs.Growth.{cut, earlier, later, paired, around, pairedTwice, Holds, Widened, Towards, Sides, Stretch}
-use Rattle.raster_morph.proofs.Cuts.{earlier-in, later-in, cut-grow, cut-around}
-use Rattle.raster_morph.proofs.Edges.{lattice}
+use Rattle.raster_fold.specs.declared.Extreme.{Extreme}
+use Rattle.raster_fold.specs.Operation.{operation}
+use Rattle.raster_fold.specs.Lines.{earlier, later, paired, around, pairedTwice}
+use Rattle.raster_fold.proofs.Operations.{lattice}
+use Rattle.raster_fold.proofs.Neighbours.{earlier-in, later-in}
+use Rattle.raster_morph.specs.Extremes.{start}
+use Rattle.raster_morph.specs.Growth.{cut, Holds, Widened, Towards, Sides, Stretch}
+use Rattle.raster_morph.proofs.Cuts.{cut-grow, cut-around}
 
 -- two windows that reach p and q make one that reaches p′ and q′
 grow-cut : (op : Extreme) (p q back ahead p′ q′ count : ℕ) (f : ℕ → ℕ) (v : ℕ) → Stretch p q back ahead p′ q′ → v < count

@@ -7,22 +7,15 @@ use mathlib.Core.Bool.{cond}
 use lib.Dec.{ltb, leb}
 use Rattle.window.specs.Window.{fold}
 use Rattle.window.specs.Store.{byteAt}
-use Rattle.raster_morph.specs.declared.Extreme.{Extreme}
-use Rattle.raster_morph.specs.declared.Extreme.the-variants.{Least, Largest}
-use Rattle.raster_morph.specs.Operation.{operation, start}
+use Rattle.raster_fold.specs.declared.Extreme.{Extreme}
+use Rattle.raster_fold.specs.declared.Extreme.the-variants.{Least, Largest}
+use Rattle.raster_fold.specs.Operation.{operation}
+use Rattle.raster_morph.specs.Extremes.{start}
 use Rattle.window.specs.Ranges.{Outside}
 
 -- the places x - back .. x + ahead that lie among the first count, put together
 unfoldable pub cut : (ℕ → ℕ → ℕ) → ℕ → ℕ → ℕ → ℕ → (ℕ → ℕ) → ℕ → ℕ
 cut op e back ahead count f x = fold op e (min count (x + ahead + 1) - (x - back)) (λ t. f (x - back + t))
-
--- the line s before v, or v itself where there is none
-unfoldable pub earlier : ℕ → ℕ → ℕ
-earlier s v = cond (ltb v s) v (v - s)
-
--- the line t after v, or v itself where there is none among count
-unfoldable pub later : ℕ → ℕ → ℕ → ℕ
-later t count v = cond (ltb (v + t) count) (v + t) v
 
 -- x, but 0 where the window of the least leaves the count lines
 unfoldable pub edged : Extreme → ℕ → ℕ → ℕ → ℕ → ℕ → ℕ
@@ -33,18 +26,6 @@ edged Largest back ahead count v x = x
 unfoldable pub edgedLine : Extreme → ℕ → ℕ → List ℕ → ℕ → ℕ → ℕ → ℕ → ℕ → ℕ
 unfolding edged
 edgedLine op back ahead d o n count v i = edged op back ahead count v (byteAt d o n v i)
-
--- byte i of the lines s before and t after v, put together
-abbrev pub paired : (ℕ → ℕ → ℕ) → List ℕ → ℕ → ℕ → ℕ → ℕ → ℕ → ℕ → ℕ → ℕ
-paired op d from n count s t v i = op (byteAt d from n (earlier s v) i) (byteAt d from n (later t count v) i)
-
--- the same with byte i of line v itself
-abbrev pub around : (ℕ → ℕ → ℕ) → List ℕ → ℕ → ℕ → ℕ → ℕ → ℕ → ℕ → ℕ → ℕ
-around op d from n count s t v i = op (paired op d from n count s t v i) (byteAt d from n v i)
-
--- such pairs put together, by s2 and t2
-abbrev pub pairedTwice : (ℕ → ℕ → ℕ) → List ℕ → ℕ → ℕ → ℕ → ℕ → ℕ → ℕ → ℕ → ℕ → ℕ → ℕ
-pairedTwice op d from n count s t s2 t2 v i = op (paired op d from n count s t (earlier s2 v) i) (paired op d from n count s t (later t2 count v) i)
 
 -- byte i of the count lines at a in d, over the cut window of line v
 abbrev pub windows : Extreme → List ℕ → ℕ → ℕ → ℕ → ℕ → ℕ → ℕ → ℕ → ℕ

@@ -1,16 +1,11 @@
--- Two ranges of one buffer, and what work that goes back and forth between them leaves.
--- Assumes nothing.
-use Prim.Native.Nat.{ℕ, _+_, _*_, _≤_, _<_}
+-- What work that goes back and forth between two ranges of one buffer leaves. Assumes nothing.
+use Prim.Native.Nat.{ℕ, _*_, _<_}
 use mathlib.Core.Path.{_≡_}
 use mathlib.Core.Logic.{_⊎_}
 use mathlib.Core.List.{List}
 use lib.ListN.{length, getD}
-use Rattle.window.specs.Ranges.{Outside, Apart}
+use Rattle.window.specs.Ranges.{Outside}
 use Rattle.window.specs.Store.{byteAt}
-
--- the m bytes from w on lie in d, apart from the m bytes from `to` on
-abbrev pub Readable : ℕ → ℕ → ℕ → List ℕ → Type 0
-Readable w to m d = (w + m ≤ length d) × Apart w m to m
 
 -- f v i stands as byte i of line v, for count lines of n bytes from the index r on, which is a or b; the count lines at the other
 -- of the two may hold anything, and every other byte of d′ is that of d

@@ -6,10 +6,10 @@ ghost use lib.ListN.{length};
 ghost use Rattle.window.specs.Ranges.{Apart};
 ghost use Rattle.raster_morph.specs.Ranges.{PingPong};
 ghost use Rattle.raster_morph.specs.Growth.{Sides, Stretch, Towards, Widened, windows};
-use super::Extreme;
-use super::line::fold_around;
-use super::line::fold_lines;
-use super::line::fold_lines_twice;
+use raster_fold::Extreme;
+use raster_fold::line::fold_around;
+use raster_fold::line::fold_lines;
+use raster_fold::line::fold_lines_twice;
 
 // How far windows reach.
 pub struct Reach {

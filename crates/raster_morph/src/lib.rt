@@ -1,20 +1,14 @@
 // The least and the largest of a window of lines (erode, dilate): lines of bytes in one buffer, by windows that double.
-pub mod fold;
+mod edge;
 mod growth;
-mod line;
 
 ghost use Prim.Native.Nat.{_+_, _*_, _≤_, _<_};
 ghost use lib.ListN.{length};
 ghost use Rattle.window.specs.Window.{column};
-ghost use Rattle.raster_morph.specs.Operation.{extreme};
+ghost use Rattle.raster_morph.specs.Extremes.{extreme};
 ghost use Rattle.window.specs.Ranges.{Apart};
 ghost use Rattle.raster_morph.specs.Ranges.{PingPong};
-
-// Erode takes the least, dilate the largest.
-pub enum Extreme {
-    Least,
-    Largest,
-}
+use raster_fold::Extreme;
 
 // Of each of the count lines of n bytes at a, the extreme over the lines from `back` before it to `ahead` after it, byte by byte, where a line
 // outside of them reads 0. The answer is where these lines are, a or b; the other of the two is scratch.
@@ -42,6 +36,6 @@ pub fn extreme_lines(
         window::lesser(back, last),
         window::lesser(ahead, last),
     );
-    line::finish_edges(op, buf, here, n, count, back, ahead);
+    edge::finish_edges(op, buf, here, n, count, back, ahead);
     here
 }

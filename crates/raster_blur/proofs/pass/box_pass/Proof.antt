@@ -2,8 +2,8 @@
 use Prim.Native.Nat.{ℕ, _+_, _≤_, _<_}
 use native.Mathlib.Omega.{arith}
 use borrow.Author.Needs.{needs}
-use Rattle.raster_blur.specs.declared.pass.Pass.{Pass}
-use Rattle.raster_blur.specs.Running.{Ready, Advanced}
+use Rattle.raster_sums.specs.declared.running.Pass.{Pass}
+use Rattle.raster_blur.specs.Advance.{Ready, Advanced}
 use Rattle.raster_blur.proofs.Passes.{ready, present, advanced-then, advanced-lined}
 use Rattle.raster_blur.proofs.pass.box_pass.Statement.{statement}
 use Rattle.raster_blur.proofs.pass.box_pass.Tie as tie

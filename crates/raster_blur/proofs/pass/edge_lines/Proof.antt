@@ -3,7 +3,7 @@ use mathlib.Core.Path.{_≡_}
 use Prim.Native.Nat.{_+_, _-_, _≤_}
 use native.Mathlib.Omega.{arith}
 use borrow.Author.Needs.{needs}
-use Rattle.raster_blur.specs.Running.{Advanced}
+use Rattle.raster_blur.specs.Advance.{Advanced}
 use Rattle.raster_blur.proofs.Passes.{advanced-none, ready, present, advanced-then}
 use Rattle.raster_blur.proofs.pass.edge_lines.Statement.{statement}
 use Rattle.raster_blur.proofs.pass.edge_lines.Tie as tie

@@ -5,7 +5,7 @@ use Prim.Native.Nat.{ℕ, _+_, _-_, _*_, _<_}
 use native.Mathlib.Omega.{arith}
 use borrow.Author.Needs.{needs}
 use Rattle.window.proofs.Numbers.{line-end}
-use Rattle.raster_blur.proofs.Lines.{lines-apart}
+use Rattle.raster_sums.proofs.Lines.{lines-apart}
 use Rattle.raster_blur.proofs.Passes.{sum-lt, next-le, inner-slid, advanced-line}
 use Rattle.raster_blur.proofs.pass.inner_line.Statement.{statement}
 use Rattle.raster_blur.proofs.pass.inner_line.Tie as tie

@@ -5,7 +5,7 @@ use native.Mathlib.Omega.{arith}
 use borrow.Author.Needs.{needs}
 use lib.ListN.{length, getD}
 use Rattle.window.specs.Store.{Filled}
-use Rattle.raster_blur.proofs.Lines.{line-none, line-more}
+use Rattle.raster_sums.proofs.Lines.{line-none, line-more}
 use Rattle.raster_blur.proofs.rows.copy_row.Statement.{statement}
 use Rattle.raster_blur.proofs.rows.copy_row.Tie as tie
 

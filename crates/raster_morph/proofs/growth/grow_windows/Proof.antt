@@ -6,7 +6,7 @@ use mathlib.Core.Logic.{_⊎_, inl, inr, ⊎-elim}
 use Prim.Native.Nat.{ℕ, _+_, _*_, _-_, _≤_}
 use native.Mathlib.Omega.{arith}
 use lib.ListN.{length}
-use Rattle.raster_morph.specs.declared.Extreme.{Extreme}
+use Rattle.raster_fold.specs.declared.Extreme.{Extreme}
 use Rattle.window.specs.Ranges.{Apart}
 use Rattle.raster_morph.specs.Ranges.{PingPong}
 use Rattle.raster_morph.specs.Growth.{windows}

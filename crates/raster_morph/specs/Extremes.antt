@@ -1,0 +1,16 @@
+-- Erode and dilate (RULES 5.5, 5.6): the smallest or largest over the window. Reads outside the lines give 0, "transparent black".
+-- Assumes nothing.
+use Prim.Native.Nat.{ℕ}
+use Rattle.window.specs.Window.{over}
+use Rattle.raster_fold.specs.declared.Extreme.{Extreme}
+use Rattle.raster_fold.specs.declared.Extreme.the-variants.{Least, Largest}
+use Rattle.raster_fold.specs.Operation.{operation}
+
+-- the byte that every byte replaces
+unfoldable pub start : Extreme → ℕ
+start Least = 255
+start Largest = 0
+
+-- the smallest or largest over x - back .. x + ahead
+abbrev pub extreme : Extreme → ℕ → ℕ → (ℕ → ℕ) → ℕ → ℕ
+extreme op back ahead f x = over (operation op) (start op) back ahead f x

@@ -1,0 +1,3 @@
+-- What the crate's clauses cite.
+pub mod Reciprocal
+pub mod Running
