@@ -101,8 +101,8 @@ fn print_layer(entry: Entry, workspace: &[u8]) {
 // Lines rendered or redrawn, on buffers of their own, and the line of that.
 
 fn print_answer(answer: Answer) {
-    print_number(plan::answers::number(answer));
-    print_number(plan::answers::place(answer) as u64);
+    print_number(checks::answers::number(answer));
+    print_number(checks::answers::place(answer) as u64);
 }
 
 fn call_of(entry: Entry) -> Call {

@@ -5,30 +5,25 @@ use mathlib.Core.List.{List}
 use Rattle.filter.specs.declared.Answer.{Answer}
 use Rattle.filter.specs.declared.Call.{Call}
 use Rattle.filter.specs.declared.Call.the-variants as C
-use Rattle.filter.specs.declared.Region.{Region}
-use Rattle.filter.specs.declared.Step.{Step}
 use Rattle.filter.specs.Answers.{numberOf, placeOf}
 use Rattle.text.specs.declared.Form.the-variants as F
 use Rattle.text.specs.declared.ReadAnswer as A
 use Rattle.text.specs.declared.ReadAnswer.the-variants.{Done, Line, Records}
-use Rattle.render.specs.Promise.{taken, ifAccepted, zeros}
-use Rattle.lines.specs.Lines.{readingIn, listIn, sheetIn, answerIn, workedIn, layersIn}
+use Rattle.layers.specs.Given.{Slice}
+use Rattle.render.specs.Promise.{ifAccepted, zeros}
+use Rattle.lines.specs.Lines.{GivenText, givenText, readingIn, answerIn, workedIn, layersIn, RedrawsIn, ValidIn}
 use Rattle.capi.specs.declared.Redrawing.{Redrawing}
 
--- the steps of the lines, and how many
-abbrev pub stepsIn : List ℕ → List Step
-stepsIn lines = listIn F.Lines lines
+-- a call by the names in an `ensures`, its steps as lines; a full render, and a redraw of a rectangle by its four numbers
+abbrev pub calling : Call → ℕ → ℕ → Slice ℕ → Slice ℕ → Slice ℕ → Slice ℕ → GivenText
+calling call w h steps source workspace scratch = givenText F.Lines steps call w h source workspace scratch
 
-abbrev pub countIn : List ℕ → ℕ
-countIn lines = taken (sheetIn F.Lines lines 0 0) (stepsIn lines)
+abbrev pub rendering : ℕ → ℕ → Slice ℕ → Slice ℕ → Slice ℕ → Slice ℕ → GivenText
+rendering w h steps source workspace scratch = calling C.Render w h steps source workspace scratch
 
--- the answer to a full render of the lines' sheet
-abbrev pub renderAnswer : ℕ → ℕ → List ℕ → List ℕ → List ℕ → List ℕ → Answer
-renderAnswer w h lines src ws scr = answerIn F.Lines lines C.Render w h src ws scr
-
--- the answer to its redraw of the rectangle g
-abbrev pub redrawAnswer : ℕ → ℕ → List ℕ → Region → List ℕ → List ℕ → List ℕ → Answer
-redrawAnswer w h lines g src ws scr = answerIn F.Lines lines (C.Redraw g) w h src ws scr
+abbrev pub redrawing : ℕ → ℕ → ℕ → ℕ → ℕ → ℕ → Slice ℕ → Slice ℕ → Slice ℕ → Slice ℕ → GivenText
+redrawing x y columns rows w h steps source workspace scratch =
+    calling (C.Redraw (record { x = x; y = y; width = columns; height = rows })) w h steps source workspace scratch
 
 -- "For text, 15 comes before all others", and 21 straight after it; "line, from 1"
 abbrev pub numberAfter : A.ReadAnswer → Answer → ℕ
@@ -45,26 +40,29 @@ placeAfter Records a = 0
 unfoldable pub replied : A.ReadAnswer → Answer → ℕ → Redrawing
 replied said a n = record { number = numberAfter said a; place = placeAfter said a; count = n }
 
-unfoldable pub numberFor : List ℕ → Answer → ℕ
-numberFor lines a = numberAfter (readingIn F.Lines lines .answer) a
+unfoldable pub numberFor : GivenText → ℕ
+numberFor t = numberAfter (readingIn (t .form) (t .text) .answer) (answerIn t)
 
-unfoldable pub placeFor : List ℕ → Answer → ℕ
-placeFor lines a = placeAfter (readingIn F.Lines lines .answer) a
+unfoldable pub placeFor : GivenText → ℕ
+placeFor t = placeAfter (readingIn (t .form) (t .text) .answer) (answerIn t)
 
--- what a call answers, and what it leaves
-abbrev pub answerTo : Call → ℕ → ℕ → List ℕ → List ℕ → List ℕ → List ℕ → Answer
-answerTo call w h lines src ws scr = answerIn F.Lines lines call w h src ws scr
+-- the pixels that a redraw worked; a full render has no count
+abbrev pub workedFor : GivenText → ℕ
+workedFor t = workedIn (answerIn t) t
 
-abbrev pub replyOf : Call → ℕ → ℕ → List ℕ → List ℕ → List ℕ → List ℕ → Redrawing
-replyOf call w h lines src ws scr =
-    replied (readingIn F.Lines lines .answer) (answerTo call w h lines src ws scr) (workedIn (answerTo call w h lines src ws scr) F.Lines lines call w h)
+abbrev pub replyFor : GivenText → Redrawing
+replyFor t = replied (readingIn (t .form) (t .text) .answer) (answerIn t) (workedFor t)
 
-abbrev pub layersTo : Call → ℕ → ℕ → List ℕ → List ℕ → List ℕ → List ℕ → List ℕ
-layersTo call w h lines src ws scr = layersIn (answerTo call w h lines src ws scr) F.Lines lines call w h src ws
+-- the workspace and the scratch buffer after a call
+abbrev pub layersFor : GivenText → List ℕ
+layersFor t = layersIn (answerIn t) t
 
-abbrev pub clearedTo : Call → ℕ → ℕ → List ℕ → List ℕ → List ℕ → List ℕ → List ℕ
-clearedTo call w h lines src ws scr = ifAccepted (answerTo call w h lines src ws scr) (zeros scr) scr
+abbrev pub clearedFor : GivenText → List ℕ
+clearedFor t = ifAccepted (answerIn t) (zeros (t .scratch)) (t .scratch)
 
--- a rectangle by its four numbers
-abbrev pub region : ℕ → ℕ → ℕ → ℕ → Region
-region x y width height = record { x = x; y = y; width = width; height = height }
+-- what holds of the workspace after an accepted one
+abbrev pub RedrawsAfter : GivenText → List ℕ → Type 0
+RedrawsAfter t after = RedrawsIn (answerIn t) t after
+
+abbrev pub ValidAfter : GivenText → List ℕ → Type 0
+ValidAfter t after = ValidIn (answerIn t) t after

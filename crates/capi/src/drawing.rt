@@ -1,18 +1,14 @@
 // Steps read from lines and drawn: the answer by value.
 use super::Redrawing;
+use checks::answers::number;
+use checks::answers::place;
 use filter::Answer;
 use filter::Call;
 use lines::draw_lines;
-use plan::answers::number;
-use plan::answers::place;
 use text::Form;
 use text::ReadAnswer;
 ghost use mathlib.Core.Path.{_≡_};
-ghost use mathlib.Core.Bool.{true};
-ghost use Rattle.filter.specs.Answers.{accepted?};
-ghost use Rattle.text.specs.declared.Form.the-variants as F;
-ghost use Rattle.lines.specs.Lines.{RedrawsIn, ValidIn};
-ghost use Rattle.capi.specs.Lines.{replied, answerTo, replyOf, layersTo, clearedTo};
+ghost use Rattle.capi.specs.Lines.{calling, replied, replyFor, layersFor, clearedFor, RedrawsAfter, ValidAfter};
 
 // The sheet's own number and place.
 fn own_reply(answer: Answer, count: usize) -> Redrawing
@@ -64,11 +60,11 @@ pub fn call_lines(
     workspace: &mut [u8],
     scratch: &mut [u8],
 ) -> Redrawing
-    ensures answers { λ r. ⌜ r ≡ replyOf call width height (now (steps .entry)) (now (source .entry)) (now (workspace .entry)) (now (scratch .entry)) ⌝ }
-    ensures layers { λ _. ⌜ now (workspace .exit) ≡ layersTo call width height (now (steps .entry)) (now (source .entry)) (now (workspace .entry)) (now (scratch .entry)) ⌝ }
-    ensures cleared { λ _. ⌜ now (scratch .exit) ≡ clearedTo call width height (now (steps .entry)) (now (source .entry)) (now (workspace .entry)) (now (scratch .entry)) ⌝ }
-    ensures redraws { λ _. ⌜ (accepted? (answerTo call width height (now (steps .entry)) (now (source .entry)) (now (workspace .entry)) (now (scratch .entry))) ≡ true → RedrawsIn F.Lines (now (steps .entry)) call width height (now (source .entry)) (now (workspace .entry)) (now (workspace .exit))) ⌝ }
-    ensures valid { λ _. ⌜ (accepted? (answerTo call width height (now (steps .entry)) (now (source .entry)) (now (workspace .entry)) (now (scratch .entry))) ≡ true → ValidIn F.Lines (now (steps .entry)) width height (now (workspace .exit))) ⌝ }
+    ensures answers { λ r. ⌜ r ≡ replyFor (calling call width height steps source workspace scratch) ⌝ }
+    ensures layers { λ _. ⌜ now (workspace .exit) ≡ layersFor (calling call width height steps source workspace scratch) ⌝ }
+    ensures cleared { λ _. ⌜ now (scratch .exit) ≡ clearedFor (calling call width height steps source workspace scratch) ⌝ }
+    ensures redraws { λ _. ⌜ RedrawsAfter (calling call width height steps source workspace scratch) (now (workspace .exit)) ⌝ }
+    ensures valid { λ _. ⌜ ValidAfter (calling call width height steps source workspace scratch) (now (workspace .exit)) ⌝ }
 {
     let drawn = draw_lines(
         Form::Lines,

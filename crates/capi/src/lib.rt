@@ -7,16 +7,11 @@ use drawing::call_lines;
 use filter::Call;
 use filter::Region;
 ghost use mathlib.Core.Path.{_≡_};
-ghost use mathlib.Core.Bool.{true, cond};
 ghost use Prim.Native.Nat.{_≤_};
-ghost use lib.Dec.{leb};
 ghost use lib.ListN.{length};
-ghost use Rattle.filter.specs.Answers.{accepted?};
-ghost use Rattle.render.specs.Promise.{ifAccepted, layerBytes, redrawnBytes, countOf, zeros, Redraws, AllValid};
 ghost use Rattle.render.specs.View.{viewAt};
-ghost use Rattle.text_step.specs.Many.{stored};
-ghost use Rattle.text_answer.specs.Answer.{longest, printedOf};
-ghost use Rattle.capi.specs.Lines.{stepsIn, countIn, renderAnswer, redrawAnswer, numberFor, placeFor, region};
+ghost use Rattle.text_answer.specs.Answer.{longest, printedOf, printedInto};
+ghost use Rattle.capi.specs.Lines.{rendering, redrawing, numberFor, placeFor, workedFor, layersFor, clearedFor, RedrawsAfter, ValidAfter};
 ghost use Rattle.capi.specs.Rules.{rulesNumber};
 
 // The rules of this build: RULES.md names them at its head.
@@ -40,11 +35,11 @@ pub extern "C" fn twillgoose_render(
     scratch: &mut [u8],
     place: &mut u64,
 ) -> u64
-    ensures number { λ r. ⌜ r ≡ numberFor (now (steps .entry)) (renderAnswer width height (now (steps .entry)) (now (source .entry)) (now (workspace .entry)) (now (scratch .entry))) ⌝ }
-    ensures place { λ _. ⌜ now (place .exit) ≡ placeFor (now (steps .entry)) (renderAnswer width height (now (steps .entry)) (now (source .entry)) (now (workspace .entry)) (now (scratch .entry))) ⌝ }
-    ensures layers { λ _. ⌜ now (workspace .exit) ≡ ifAccepted (renderAnswer width height (now (steps .entry)) (now (source .entry)) (now (workspace .entry)) (now (scratch .entry))) (layerBytes width height (stepsIn (now (steps .entry))) (countIn (now (steps .entry))) (now (source .entry))) (now (workspace .entry)) ⌝ }
-    ensures cleared { λ _. ⌜ now (scratch .exit) ≡ ifAccepted (renderAnswer width height (now (steps .entry)) (now (source .entry)) (now (workspace .entry)) (now (scratch .entry))) (zeros (now (scratch .entry))) (now (scratch .entry)) ⌝ }
-    ensures valid { λ _. ⌜ (accepted? (renderAnswer width height (now (steps .entry)) (now (source .entry)) (now (workspace .entry)) (now (scratch .entry))) ≡ true → AllValid width height (countIn (now (steps .entry))) (now (workspace .exit))) ⌝ }
+    ensures number { λ r. ⌜ r ≡ numberFor (rendering width height steps source workspace scratch) ⌝ }
+    ensures place { λ _. ⌜ now (place .exit) ≡ placeFor (rendering width height steps source workspace scratch) ⌝ }
+    ensures layers { λ _. ⌜ now (workspace .exit) ≡ layersFor (rendering width height steps source workspace scratch) ⌝ }
+    ensures cleared { λ _. ⌜ now (scratch .exit) ≡ clearedFor (rendering width height steps source workspace scratch) ⌝ }
+    ensures valid { λ _. ⌜ ValidAfter (rendering width height steps source workspace scratch) (now (workspace .exit)) ⌝ }
 {
     let rendered = call_lines(
         Call::Render,
@@ -75,13 +70,13 @@ pub extern "C" fn twillgoose_redraw(
     place: &mut u64,
     count: &mut u64,
 ) -> u64
-    ensures number { λ r. ⌜ r ≡ numberFor (now (steps .entry)) (redrawAnswer width height (now (steps .entry)) (region x y columns rows) (now (source .entry)) (now (workspace .entry)) (now (scratch .entry))) ⌝ }
-    ensures place { λ _. ⌜ now (place .exit) ≡ placeFor (now (steps .entry)) (redrawAnswer width height (now (steps .entry)) (region x y columns rows) (now (source .entry)) (now (workspace .entry)) (now (scratch .entry))) ⌝ }
-    ensures count { λ _. ⌜ now (count .exit) ≡ countOf (redrawAnswer width height (now (steps .entry)) (region x y columns rows) (now (source .entry)) (now (workspace .entry)) (now (scratch .entry))) width height (stepsIn (now (steps .entry))) (countIn (now (steps .entry))) (region x y columns rows) ⌝ }
-    ensures layers { λ _. ⌜ now (workspace .exit) ≡ ifAccepted (redrawAnswer width height (now (steps .entry)) (region x y columns rows) (now (source .entry)) (now (workspace .entry)) (now (scratch .entry))) (redrawnBytes width height (stepsIn (now (steps .entry))) (countIn (now (steps .entry))) (region x y columns rows) (now (workspace .entry)) (now (source .entry))) (now (workspace .entry)) ⌝ }
-    ensures cleared { λ _. ⌜ now (scratch .exit) ≡ ifAccepted (redrawAnswer width height (now (steps .entry)) (region x y columns rows) (now (source .entry)) (now (workspace .entry)) (now (scratch .entry))) (zeros (now (scratch .entry))) (now (scratch .entry)) ⌝ }
-    ensures redraws { λ _. ⌜ (accepted? (redrawAnswer width height (now (steps .entry)) (region x y columns rows) (now (source .entry)) (now (workspace .entry)) (now (scratch .entry))) ≡ true → Redraws width height (stepsIn (now (steps .entry))) (countIn (now (steps .entry))) (region x y columns rows) (now (source .entry)) (now (workspace .entry)) (now (workspace .exit))) ⌝ }
-    ensures valid { λ _. ⌜ (accepted? (redrawAnswer width height (now (steps .entry)) (region x y columns rows) (now (source .entry)) (now (workspace .entry)) (now (scratch .entry))) ≡ true → AllValid width height (countIn (now (steps .entry))) (now (workspace .exit))) ⌝ }
+    ensures number { λ r. ⌜ r ≡ numberFor (redrawing x y columns rows width height steps source workspace scratch) ⌝ }
+    ensures place { λ _. ⌜ now (place .exit) ≡ placeFor (redrawing x y columns rows width height steps source workspace scratch) ⌝ }
+    ensures count { λ _. ⌜ now (count .exit) ≡ workedFor (redrawing x y columns rows width height steps source workspace scratch) ⌝ }
+    ensures layers { λ _. ⌜ now (workspace .exit) ≡ layersFor (redrawing x y columns rows width height steps source workspace scratch) ⌝ }
+    ensures cleared { λ _. ⌜ now (scratch .exit) ≡ clearedFor (redrawing x y columns rows width height steps source workspace scratch) ⌝ }
+    ensures redraws { λ _. ⌜ RedrawsAfter (redrawing x y columns rows width height steps source workspace scratch) (now (workspace .exit)) ⌝ }
+    ensures valid { λ _. ⌜ ValidAfter (redrawing x y columns rows width height steps source workspace scratch) (now (workspace .exit)) ⌝ }
 {
     let named = Region {
         x,
@@ -126,7 +121,7 @@ pub extern "C" fn twillgoose_layer(
 pub extern "C" fn twillgoose_sheet(text: &[u8], out: &mut [u8]) -> u64
     ensures long { λ r. ⌜ r ≡ length (printedOf (now (text .entry))) ⌝ }
     ensures enough { λ r. ⌜ r ≤ longest ⌝ }
-    ensures printed { λ _. ⌜ now (out .exit) ≡ cond (leb (length (printedOf (now (text .entry)))) (length (now (out .entry)))) (stored (now (out .entry)) 0 (printedOf (now (text .entry)))) (now (out .entry)) ⌝ }
+    ensures printed { λ _. ⌜ now (out .exit) ≡ printedInto (now (out .entry)) (now (text .entry)) ⌝ }
 {
     let n = text_answer::answer(text, out);
     n as u64

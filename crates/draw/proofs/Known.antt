@@ -1,34 +1,39 @@
--- A primitive whose kind is known, by its place in the declaration or whole. Assumes nothing.
-use mathlib.Core.Path.{_≡_, subst}
+-- A shape that is known, by its place in the declaration or whole. Assumes nothing.
+use mathlib.Core.Path.{_≡_, sym, subst}
 use mathlib.Core.List.{List, [], _∷_}
 use Prim.Native.Nat.{ℕ}
 use types.Run.{OneOf, miss}
 use denote.Enum.Declared.{tagOf}
-use Rattle.filter.proofs.Primitive.{the-type}
-use Rattle.filter.specs.declared.Primitive.{Primitive}
-use Rattle.filter.specs.declared.Primitive.the-variants as P
-use Rattle.filter.specs.Kinds.{reads}
+use Rattle.filter.proofs.Shape.{the-type}
+use Rattle.number.specs.declared.Fixed.{Fixed}
+use Rattle.filter.specs.declared.Rect.{Rect}
+use Rattle.filter.specs.declared.Shape.{Shape}
+use Rattle.filter.specs.declared.Shape.the-variants as S
+use Rattle.filter.specs.Effect.{Env}
+use Rattle.filter.specs.Kinds.{workOf, reads}
 use Rattle.filter.specs.Earlier.{Earlier}
-use Rattle.filter.specs.Accepted.{Bounded}
-use Rattle.draw_point.specs.Pointwise.{Pointwise}
+use Rattle.filter.specs.Accepted.{Measured, Numbered}
+use Rattle.stage.specs.declared.Context.{Context}
+use Rattle.stage.specs.Context.{DrawnIn}
+use Rattle.draw_point.specs.Kindless.{Kindless}
 
--- all kinds but blur, erode and dilate; a new kind is listed here, or has an arm of its own
+-- flood, offset and merge: the shapes without kinds inside
 abbrev pub others : List ℕ
-others = 0 ∷ 1 ∷ 5 ∷ 6 ∷ 7 ∷ 8 ∷ 9 ∷ []
+others = 0 ∷ 1 ∷ 5 ∷ []
 
-pub others-pointwise : (p : Primitive) → OneOf others (tagOf the-type p) → Pointwise p
-unfolding Pointwise
-others-pointwise (P.Flood c) k = tt
-others-pointwise (P.Offset i dx dy) k = tt
-others-pointwise (P.Blur i dx dy) k = miss others 2 tt k
-others-pointwise (P.Erode i rx ry) k = miss others 3 tt k
-others-pointwise (P.Dilate i rx ry) k = miss others 4 tt k
-others-pointwise (P.Transform i m) k = tt
-others-pointwise (P.Luminance i) k = tt
-others-pointwise (P.Composite o i j) k = tt
-others-pointwise (P.Combine c i j) k = tt
-others-pointwise (P.Merge c is) k = tt
+pub others-kindless : (k : Shape) → OneOf others (tagOf the-type k) → Kindless k
+unfolding Kindless
+others-kindless (S.Flood c) o = tt
+others-kindless (S.Offset i dx dy) o = tt
+others-kindless (S.Pass p i dx dy) o = miss others 2 tt o
+others-kindless (S.Map m i) o = miss others 3 tt o
+others-kindless (S.Pair p i j) o = miss others 4 tt o
+others-kindless (S.Merge c is) o = tt
 
--- what was checked of it
-pub checked-known : (n : ℕ) (p q : Primitive) → p ≡ q → Earlier n (reads p) → Bounded p → Earlier n (reads q) × Bounded q
-checked-known n p q e a b = subst (λ (k : Primitive). Earlier n (reads k) × Bounded k) e (a, b)
+module _ (k l : Shape) (e : k ≡ l) where
+  -- what was checked of it
+  pub checked-known : (n : ℕ) (v : List Fixed) → Earlier n (reads k) → Measured k → Numbered k v → Earlier n (reads l) × Measured l × Numbered l v
+  checked-known n v a b d = subst (λ (s : Shape). Earlier n (reads s) × Measured s × Numbered s v) e (a, b, d)
+
+  pub drawn-known : (c : Context) (v : List Fixed) (E : Env) (r : Rect) (d d′ : List ℕ) → DrawnIn c r (workOf (c .w) (c .h) l v E) d d′ → DrawnIn c r (workOf (c .w) (c .h) k v E) d d′
+  drawn-known c v E r d d′ = subst (λ (s : Shape). DrawnIn c r (workOf (c .w) (c .h) s v E) d d′) (sym e)

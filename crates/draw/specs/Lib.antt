@@ -1,4 +1,3 @@
--- A step drawn inside a rectangle; a layer cleared around one.
-pub mod Drawing
+-- A layer cleared around a rectangle.
 pub mod Cleared
 pub mod Covers

@@ -1,4 +1,4 @@
--- A blur is its passes across, then down; a band of each line is enough for them. Assumes nothing.
+-- A blur's passes along lines: a band of each line is enough for them. Assumes nothing.
 use Prim.Native.Nat.{ℕ, zero, suc, _+_, _-_, _*_, _/_, _%_, _≤_, _<_}
 use mathlib.Core.Path.{_≡_, refl, sym, ap, _∙_, fun-ext}
 use mathlib.Core.Bool.{Bool, true, false, cond}
@@ -10,11 +10,7 @@ use borrow.Author.Tests.{lt-ltb}
 use Rattle.window.specs.Window.{within, column, mean, box, passesOf, passes, spread}
 use Rattle.window.proofs.Band.{within-in, passes-band}
 use Rattle.raster_blur.specs.Blurred.{Blurred}
-use Rattle.filter.specs.declared.Input.{Input}
-use Rattle.filter.specs.declared.Primitive.the-variants.{Blur}
-use Rattle.filter.specs.Effect.{Env}
-use Rattle.filter.specs.Kinds.{blurred, work}
-use Rattle.draw_window.specs.Passes.{acrossOf, downOf, Worked}
+use Rattle.draw_window.specs.Passes.{Worked}
 use Rattle.draw_window.proofs.Rules.{Banded, band-ends, over-zeros, fold-zeros}
 use Rattle.draw_blur.specs.Blurs.{blurs}
 
@@ -54,11 +50,6 @@ spread-banded d = record {
 
 pub blurs-banded : (d reach : ℕ) → reach ≡ spread d → Banded (blurs d) reach reach
 blurs-banded d reach e = rw e (spread-banded d)
-
--- the two directions make the step
-pub blur-is : (w h : ℕ) (i : Input) (dx dy : ℕ) (E : Env) → downOf (blurs dy) h (acrossOf (blurs dx) w (E i)) ≡ work w h (Blur i dx dy) E
-unfolding downOf acrossOf blurs work blurred
-blur-is w h i dx dy E = refl
 
 -- no passes
 pub worked-none : (d n count : ℕ) (s : List ℕ) → d < 2 → Worked (blurs d) 0 n count s s

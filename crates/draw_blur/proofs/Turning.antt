@@ -16,13 +16,14 @@ use Rattle.filter.specs.Picture.{Picture}
 use Rattle.filter.specs.Valid.{BlankOutside}
 use Rattle.stage.specs.Buffers.{Loaded}
 use Rattle.stage.specs.Strip.{Strip}
+use Rattle.draw_window.specs.declared.Span.{Span}
 use Rattle.draw_window.specs.Reached.{Reached}
 use Rattle.draw_window.specs.Passes.{Rule, acrossOf, Worked}
 use Rattle.draw_window.proofs.Channels.{channel, channel-at, pixel-bytes}
 use Rattle.draw_window.proofs.Rules.{Banded}
 use Rattle.draw_window.proofs.Strips.{strip-more}
 use Rattle.draw_window.proofs.Bands.{band-channel}
-use Rattle.draw_blur.specs.Lanes.{Lanes, Spread, Gathered}
+use Rattle.draw_blur.specs.Lanes.{Lanes, Dealt, Gathered}
 
 lanes-none : (p : Picture) (o lo from to y : ℕ) (d : List ℕ) → Lanes p o lo from to y 0 d
 lanes-none p o lo from to y d = record { same = λ x k a b c. absurd (omega arith) }
@@ -50,13 +51,13 @@ lanes-more p from to y k row₀ row d d′ few L G R = record {
       (lt-or-le j k);
 }
 
-pub spread-none : (p : Picture) (from to y : ℕ) (d : List ℕ) → Spread p from to y 0 d d
-spread-none p from to y d = record { lanes = lanes-none p 0 from from to y d; outside = λ j h. refl; long = refl }
+pub dealt-none : (p : Picture) (s : Span) (y : ℕ) (d : List ℕ) → Dealt p s y 0 d d
+dealt-none p s y d = record { lanes = lanes-none p 0 (s .from) (s .from) (s .to) y d; outside = λ j h. refl; long = refl }
 
-pub spread-more : (p : Picture) (from to y k : ℕ) (row₀ row d₀ d d′ : List ℕ) → k < 8 → Spread p from to y k d₀ d → Loaded p (y + k) from to row₀ row
-    → Rows (λ x c. byteAt row 0 4 x c) (4 * k) 32 4 (to - from) d d′ → Spread p from to y (k + 1) d₀ d′
-spread-more p from to y k row₀ row d₀ d d′ few S G R = record {
-  lanes = lanes-more p from to y k row₀ row d d′ few (S .lanes) G R;
+pub dealt-more : (p : Picture) (s : Span) (y k : ℕ) (row₀ row d₀ d d′ : List ℕ) → k < 8 → Dealt p s y k d₀ d → Loaded p (y + k) (s .from) (s .to) row₀ row
+    → Rows (λ x c. byteAt row 0 4 x c) (4 * k) 32 4 (s .to - s .from) d d′ → Dealt p s y (k + 1) d₀ d′
+dealt-more p s y k row₀ row d₀ d d′ few S G R = record {
+  lanes = lanes-more p (s .from) (s .to) y k row₀ row d d′ few (S .lanes) G R;
   outside = λ j h. R .outside j (λ v i a b e. h v (4 * k + i) a (omega arith) (omega (arith, e))) ∙ S .outside j (λ v i a b. h v i a (omega arith));
   long = R .long ∙ S .long;
 }

@@ -1,3 +1,3 @@
--- A blur inside a rectangle: definitions that only the code needs; no promise to a caller cites them.
+-- A blur along lines: definitions that only the code needs; no promise to a caller cites them.
 pub mod Blurs
 pub mod Lanes

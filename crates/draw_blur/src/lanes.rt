@@ -1,26 +1,24 @@
 ghost use mathlib.Core.Path.{_≡_};
 ghost use mathlib.Core.Bool.{true};
-ghost use Prim.Native.Nat.{_+_, _-_, _*_, _≤_, _<_};
+ghost use Prim.Native.Nat.{_+_, _*_, _≤_};
 ghost use lib.ListN.{length};
 ghost use Rattle.filter.specs.Checks.{allowed?};
 ghost use Rattle.filter.specs.Limits.{longestSide};
-ghost use Rattle.stage.specs.Buffers.{Sized};
-ghost use Rattle.stage.specs.Shown.{shown, Tabled};
-ghost use Rattle.draw_blur.specs.Lanes.{Spread, Gathered};
+ghost use Rattle.stage.specs.Shown.{shown};
+ghost use Rattle.stage.specs.Context.{Readable};
+ghost use Rattle.draw_blur.specs.Lanes.{Dealt, Gathered};
 use draw_window::Span;
 use filter::Input;
 use raster_blur::rows::copy_rows;
 use raster_blur::rows::spread;
-use stage::Lens;
+use stage::Context;
+use stage::RowPart;
 
-// A span of the rows y .. y + count - 1 of an input as a step sees it, as lanes of the lines at the start of `lines`.
-pub fn spread_rows(
+// A span of the rows y .. y + count - 1 of an input as a step sees it, dealt to the lanes of the lines at the start of `lines`.
+pub fn deal_rows(
     workspace: &[u8],
     source: &[u8],
-    w: usize,
-    h: usize,
-    n: usize,
-    lens: Lens,
+    context: Context,
     pairs: &[u8],
     input: Input,
     y: usize,
@@ -28,29 +26,19 @@ pub fn spread_rows(
     span: Span,
     lines: &mut [u8],
 )
-    requires { ⌜ Sized w h n (now source) (now workspace) × (allowed? n input ≡ true) × (y + count ≤ h) × (count ≤ 8) × Tabled lens (now pairs) ⌝ }
-    requires { ⌜ (span .from ≤ span .to) × (span .to ≤ w) × (length (now lines) ≡ 64 * longestSide) ⌝ }
-    ensures { λ _. ⌜ Spread (shown lens w h (now (source .entry)) (now (workspace .entry)) input) (span .from) (span .to) y count (now (lines .entry)) (now (lines .exit)) ⌝ }
+    requires { ⌜ Readable context (now source) (now workspace) (now pairs) × (allowed? (context .n) input ≡ true) × (y + count ≤ context .h) × (count ≤ 8) ⌝ }
+    requires { ⌜ (span .from ≤ span .to) × (span .to ≤ context .w) × (length (now lines) ≡ 64 * longestSide) ⌝ }
+    ensures { λ _. ⌜ Dealt (shown context (now (source .entry)) (now (workspace .entry)) input) span y count (now (lines .entry)) (now (lines .exit)) ⌝ }
 {
-    let from = span.from;
-    let to = span.to;
     let mut row = [0u8; window::ROW];
     for k in 0..count {
-        stage::load(
-            workspace,
-            source,
-            w,
-            h,
-            n,
-            lens,
-            pairs,
-            input,
-            y + k,
-            from,
-            to,
-            &mut row,
-        );
-        spread(&row, lines, 4 * k, to - from);
+        let part = RowPart {
+            y: y + k,
+            from: span.from,
+            to: span.to,
+        };
+        stage::load(workspace, source, context, pairs, input, part, &mut row);
+        spread(&row, lines, 4 * k, span.to - span.from);
     }
 }
 

@@ -1,32 +1,25 @@
-// A blur, drawn inside one rectangle of a layer.
+// A strip of an input, blurred along its rows, and then down its columns.
+mod lanes; // eight rows at a time, turned into lines of 32 bytes
+
 ghost use mathlib.Core.Path.{_≡_};
 ghost use mathlib.Core.Bool.{true};
 ghost use mathlib.Core.Logic.{_⊎_};
-ghost use Prim.Native.Nat.{_+_, _-_, _*_, _≤_, _<_};
+ghost use Prim.Native.Nat.{_*_, _≤_};
 ghost use lib.ListN.{length};
-ghost use Rattle.window.specs.Store.{WorkBuffer};
-ghost use Rattle.filter.specs.Kinds.{work};
-ghost use Rattle.filter.specs.declared.Primitive.the-variants.{Blur};
 ghost use Rattle.filter.specs.Checks.{allowed?};
-ghost use Rattle.filter.specs.Accepted.{Within};
-ghost use Rattle.filter.specs.Bytes.{size};
 ghost use Rattle.filter.specs.Limits.{longestSide, mostPixels};
-ghost use Rattle.stage.specs.Buffers.{Sized};
-ghost use Rattle.stage.specs.Shown.{shown, Tabled};
-ghost use Rattle.stage.specs.Drawn.{Drawn};
-ghost use Rattle.stage.specs.Strip.{Strip};
-ghost use Rattle.draw_window.specs.Passes.{acrossOf, Worked};
+ghost use Rattle.stage.specs.Context.{Readable};
+ghost use Rattle.draw_window.specs.Passes.{Worked};
+ghost use Rattle.draw_window.specs.Strips.{StripOn, areaOf, StripAcross, StripDown};
 ghost use Rattle.draw_blur.specs.Blurs.{blurs};
 use draw_window::reached;
 use filter::Input;
 use filter::Rect;
+use lanes::deal_rows;
 use lanes::gather_rows;
-use lanes::spread_rows;
-use stage::Lens;
+use stage::Context;
 use window::lesser;
 use window::spread_of;
-
-pub mod lanes; // eight rows at a time, turned into lines of 32 bytes
 
 // The bytes of such lines for the longest rows.
 const TILE: usize = 32 * window::SIDE;
@@ -52,22 +45,19 @@ fn pass_lines(
 }
 
 // A strip of the input, worked along its rows, at the start of scratch.
-fn blur_across(
+pub fn blur_across(
     workspace: &[u8],
     source: &[u8],
     scratch: &mut [u8],
-    w: usize,
-    h: usize,
-    n: usize,
-    lens: Lens,
+    context: Context,
     pairs: &[u8],
     input: Input,
     strip: Rect,
     d: usize,
 )
-    requires { ⌜ Sized w h n (now source) (now workspace) × (allowed? n input ≡ true) × (d ≤ 60) × Tabled lens (now pairs) ⌝ }
-    requires { ⌜ (strip .left < strip .right) × (strip .right ≤ w) × (strip .top ≤ strip .bottom) × (strip .bottom ≤ h) × (4 * ((strip .bottom - strip .top) * (strip .right - strip .left)) ≤ length (now scratch)) ⌝ }
-    ensures { λ _. ⌜ Strip (acrossOf (blurs d) w (shown lens w h (now (source .entry)) (now (workspace .entry)) input)) 0 (strip .left) (strip .right) (strip .top) (strip .bottom) (now (scratch .exit)) ⌝ }
+    requires { ⌜ Readable context (now source) (now workspace) (now pairs) × (allowed? (context .n) input ≡ true) × (d ≤ 60) ⌝ }
+    requires { ⌜ StripOn (context .w) (context .h) strip × (4 * areaOf strip ≤ length (now scratch)) ⌝ }
+    ensures { λ _. ⌜ StripAcross (blurs d) context (now (source .entry)) (now (workspace .entry)) input strip (now (scratch .exit)) ⌝ }
 {
     let left = strip.left;
     let right = strip.right;
@@ -75,7 +65,7 @@ fn blur_across(
     let bottom = strip.bottom;
     let width = right - left;
     let reach = spread_of(d);
-    let span = reached(w, left, right, reach, reach);
+    let span = reached(context.w, left, right, reach, reach);
     let places = span.to - span.from;
     let skip = 32 * (left - span.from);
     let mut tile = [0u8; 2 * TILE];
@@ -83,13 +73,10 @@ fn blur_across(
     let mut y = top;
     while y < bottom {
         let count = lesser(8, bottom - y);
-        spread_rows(
+        deal_rows(
             workspace,
             source,
-            w,
-            h,
-            n,
-            lens,
+            context,
             pairs,
             input,
             y,
@@ -104,65 +91,14 @@ fn blur_across(
     }
 }
 
-// A strip at the start of scratch, worked along its columns. The answer is the pixel where the result starts: 0 or half.
-fn blur_down(scratch: &mut [u8], half: usize, strip: Rect, d: usize) -> usize
+// A strip at the start of scratch, worked down its columns. The answer is the pixel where the result starts: 0 or half.
+pub fn blur_down(scratch: &mut [u8], half: usize, strip: Rect, d: usize) -> usize
     requires { ⌜ (length (now scratch) ≡ 8 * half) × (half ≤ mostPixels) × (d ≤ 60) ⌝ }
-    requires { ⌜ (strip .left < strip .right) × (strip .right ≤ longestSide) × (strip .top < strip .bottom) × (strip .bottom ≤ longestSide) × ((strip .bottom - strip .top) * (strip .right - strip .left) ≤ half) ⌝ }
-    ensures { λ r. ⌜ Worked (blurs d) (4 * r) (4 * (strip .right - strip .left)) (strip .bottom - strip .top) (now (scratch .entry)) (now (scratch .exit)) × (r ≤ half) ⌝ }
+    requires { ⌜ StripOn longestSide longestSide strip × (areaOf strip ≤ half) ⌝ }
+    ensures { λ r. ⌜ StripDown (blurs d) strip r (now (scratch .entry)) (now (scratch .exit)) × (r ≤ half) ⌝ }
 {
     let n = 4 * (strip.right - strip.left);
     let count = strip.bottom - strip.top;
     let mut sums = [0u16; window::ROW];
     pass_lines(scratch, 4 * half, n, count, d, &mut sums) / 4
-}
-
-// A blur, step n, inside a rectangle.
-pub fn draw_blur(
-    workspace: &mut [u8],
-    source: &[u8],
-    scratch: &mut [u8],
-    w: usize,
-    h: usize,
-    n: usize,
-    lens: Lens,
-    pairs: &[u8],
-    input: Input,
-    dx: usize,
-    dy: usize,
-    rect: Rect,
-)
-    requires { ⌜ Sized w h n (now source) (now workspace) × (length (now scratch) ≡ 2 * size w h) × (allowed? n input ≡ true) × Tabled lens (now pairs) ⌝ }
-    requires { ⌜ (dx ≤ 60) × (dy ≤ 60) × Within w h rect ⌝ }
-    ensures { λ _. ⌜ Drawn w h n rect (work w h (Blur input dx dy) (shown lens w h (now (source .entry)) (now (workspace .entry)))) (now (workspace .entry)) (now (workspace .exit)) ⌝ }
-    ensures { λ _. ⌜ WorkBuffer (now (scratch .entry)) (now (scratch .exit)) ⌝ }
-{
-    if rect.right <= rect.left {
-        return;
-    }
-    if rect.bottom <= rect.top {
-        return;
-    }
-    let reach = spread_of(dy);
-    let span = reached(h, rect.top, rect.bottom, reach, reach);
-    let rows = Rect {
-        left: rect.left,
-        right: rect.right,
-        top: span.from,
-        bottom: span.to,
-    };
-    blur_across(
-        &workspace[..],
-        source,
-        scratch,
-        w,
-        h,
-        n,
-        lens,
-        pairs,
-        input,
-        rows,
-        dx,
-    );
-    let at = blur_down(scratch, w * h, rows, dy);
-    stage::store_rows(workspace, w, h, n, rect, &scratch[..], at, rows.top);
 }

@@ -1,3 +1,2 @@
--- Erode and dilate inside a rectangle.
-pub mod Morphology
+-- Erode and dilate along lines.
 pub mod Extremes

@@ -17,8 +17,9 @@ use Rattle.filter.specs.Kinds.{shifted}
 use Rattle.filter.specs.Valid.{BlankOutside}
 use Rattle.filter.specs.Accepted.{Near}
 use Rattle.filter.specs.Limits.{longestSide}
+use Rattle.stage.specs.declared.RowPart.{RowPart}
 use Rattle.stage.specs.Buffers.{Loaded}
-use Rattle.draw_point.proofs.Strokes.{loaded-pixel}
+use Rattle.stage.proofs.LoadedRows.{loaded-pixel}
 
 module _ (dx dy : Shift) (p : Picture) (x y : ℕ) where
   -- the row lies above the canvas, or the column left of it
@@ -64,13 +65,13 @@ outside-until t right first last w k s a b = omega arith
 
 -- the columns of the input that show between `from` and `to`: they are there, and no more than those
 module _ (w from to right left first last : ℕ) (order : from ≤ to) (starts : first ≡ min (from + left - right) w) (ends : last ≡ min (to + left - right) w) where
-  pub cut-order : first ≤ last
+  cut-order : first ≤ last
   cut-order = omega arith
 
-  pub cut-wide : last ≤ w
+  cut-wide : last ≤ w
   cut-wide = omega arith
 
-  pub cut-few : last - first ≤ to - from
+  cut-few : last - first ≤ to - from
   cut-few = omega arith
 
   cut-since : (x : ℕ) → from ≤ x → right ≤ x + left → right + first ≤ x + left
@@ -78,6 +79,14 @@ module _ (w from to right left first last : ℕ) (order : from ≤ to) (starts :
 
   cut-until : (x : ℕ) → x < to → right ≤ x + left → x + left - right < w → x + left - right < last
   cut-until x l k s = omega arith
+
+pub cut-part : (w : ℕ) (d : Shift) (p : RowPart) (first last : ℕ) → p .from ≤ p .to → first ≡ min (p .from + d .minus - d .plus) w → last ≡ min (p .to + d .minus - d .plus) w
+    → (first ≤ last) × (last ≤ w) × (last - first ≤ p .to - p .from)
+cut-part w d p first last order starts ends = (
+  cut-order w (p .from) (p .to) (d .plus) (d .minus) first last order starts ends,
+  cut-wide w (p .from) (p .to) (d .plus) (d .minus) first last order starts ends,
+  cut-few w (p .from) (p .to) (d .plus) (d .minus) first last order starts ends,
+)
 
 module _ (dx dy : Shift) (p : Picture) (w h y v from to first last : ℕ) (row row′ : List ℕ) (blank : BlankOutside (canvasOf w h) p) (order : from ≤ to)
     (starts : first ≡ min (from + dx .minus - dx .plus) w) (ends : last ≡ min (to + dx .minus - dx .plus) w)

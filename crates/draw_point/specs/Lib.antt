@@ -1,3 +1,3 @@
--- The kinds that are drawn row by row, and what drawing a row asks for.
-pub mod Pointwise
+-- The shapes that are drawn here, and what drawing a row asks for.
+pub mod Kindless
 pub mod Row

@@ -1,53 +1,51 @@
 -- What the functions for one row ask of each other: no promise to a caller cites these. Assumes nothing.
-use Prim.Native.Nat.{ℕ, _≤_, _<_}
+use Prim.Native.Nat.{ℕ, _+_, _-_, _*_}
+use mathlib.Core.Path.{_≡_}
 use mathlib.Core.Bool.{cond}
-use mathlib.Core.List.{List}
+use mathlib.Core.List.{List, []}
 use lib.Dec.{eqb}
-use Rattle.raster_alpha.specs.Tables.{Unpremultiplies, Weighs}
-use Rattle.raster_arithmetic.specs.Tables.{Combines}
-use Rattle.raster_color.specs.Tables.{Mixes}
+use lib.ListN.{length}
+use Rattle.pixel.specs.declared.Operator.the-variants.{Over}
+use Rattle.pixel.specs.Bytes.{pixelAt, Painted}
+use Rattle.pixel.specs.Composite.{composited}
 use Rattle.filter.specs.declared.Input.{Input}
 use Rattle.filter.specs.declared.Inputs.{Inputs}
-use Rattle.filter.specs.declared.Primitive.{Primitive}
-use Rattle.filter.specs.declared.Primitive.the-variants as P
-use Rattle.filter.specs.Kinds.{reads}
+use Rattle.filter.specs.declared.Shape.{Shape}
+use Rattle.filter.specs.Picture.{Picture}
+use Rattle.filter.specs.Effect.{Env}
+use Rattle.filter.specs.Kinds.{firstInputs, stacked, workOf, reads}
 use Rattle.filter.specs.Earlier.{Earlier}
-use Rattle.filter.specs.Accepted.{Bounded}
-use Rattle.stage.specs.declared.Lens.{Lens}
-use Rattle.stage.specs.Buffers.{Sized, ValidInputs}
-use Rattle.stage.specs.Shown.{shown, Tabled}
+use Rattle.filter.specs.Accepted.{Measured}
+use Rattle.stage.specs.declared.Context.{Context}
+use Rattle.stage.specs.declared.RowPart.{RowPart}
+use Rattle.stage.specs.Shown.{shown}
+use Rattle.stage.specs.Context.{Drawable, LoadedPart, RowPainted}
 
--- step n can be worked on these buffers
-pub record Drawable (w h n : ℕ) (lens : Lens) (src ws pairs : List ℕ) (p : Primitive) : Type 0 where
-  pub sized : Sized w h n src ws
-  pub tabled : Tabled lens pairs
-  pub valid : ValidInputs n (shown lens w h src ws)
-  pub earlier : Earlier n (reads p)
-  pub bounded : Bounded p
+-- a step of this shape can be worked on these buffers
+pub record Workable (c : Context) (src ws pairs : List ℕ) (k : Shape) : Type 0 where
+  pub drawable : Drawable c src ws pairs
+  pub earlier : Earlier (c .n) (reads k)
+  pub measured : Measured k
 
--- the pixels from `from` up to `to` of row y lie on the canvas
-pub record Span (w h y from to : ℕ) : Type 0 where
-  pub high : y < h
-  pub order : from ≤ to
-  pub wide : to ≤ w
+-- a work row for the columns from `from` up to `to`
+abbrev pub WorkRow : ℕ → ℕ → List ℕ → Type 0
+WorkRow from to row = length row ≡ 4 * (to - from)
 
--- the tables of a step's numbers are worked out
-unfoldable pub Prepared : Primitive → List ℕ → List ℕ → List ℕ → List ℕ → Type 0
-Prepared (P.Flood c) sums products luma inverse = Unit {0}
-Prepared (P.Offset i dx dy) sums products luma inverse = Unit {0}
-Prepared (P.Blur i dx dy) sums products luma inverse = Unit {0}
-Prepared (P.Erode i rx ry) sums products luma inverse = Unit {0}
-Prepared (P.Dilate i rx ry) sums products luma inverse = Unit {0}
-Prepared (P.Transform i m) sums products luma inverse = Mixes m products × Unpremultiplies inverse
-Prepared (P.Luminance i) sums products luma inverse = Weighs luma × Unpremultiplies inverse
-Prepared (P.Composite o i j) sums products luma inverse = Unit {0}
-Prepared (P.Combine k i j) sums products luma inverse = Combines k sums
-Prepared (P.Merge c is) sums products luma inverse = Unit {0}
-
--- there are none
-abbrev pub TableFree : Primitive → Type 0
-TableFree p = (sums products luma inverse : List ℕ) → Prepared p sums products luma inverse
+-- the part of the step's own layer is drawn
+abbrev pub RowDrawn : Context → Shape → RowPart → List ℕ → List ℕ → List ℕ → Type 0
+RowDrawn c k p src ws ws′ = RowPainted c p (λ x. workOf (c .w) (c .h) k [] (shown c src ws) x (p .y)) ws ws′
 
 -- input j of a merge, counted from 0
 abbrev pub inputAt : Inputs → ℕ → Input
 inputAt is j = cond (eqb j 0) (is .first) (cond (eqb j 1) (is .second) (cond (eqb j 2) (is .third) (is .fourth)))
+
+-- the first n inputs, each laid over those before it
+abbrev pub stackOf : Env → Inputs → ℕ → Picture
+stackOf E is n x y = stacked E x y (firstInputs n is)
+
+abbrev pub RowStacked : Env → Inputs → ℕ → RowPart → List ℕ → List ℕ → Type 0
+RowStacked E is n p row row′ = LoadedPart (stackOf E is n) p row row′
+
+-- the part of a picture is laid over what the work row holds
+abbrev pub Laid : Picture → RowPart → List ℕ → List ℕ → Type 0
+Laid q p row row′ = Painted (λ x. composited Over (q (p .from + x) (p .y)) (pixelAt row (4 * x))) 0 0 (p .to - p .from) row row′

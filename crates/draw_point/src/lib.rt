@@ -1,220 +1,122 @@
-// One step of a kind that needs no neighbours, drawn inside one rectangle of its layer, row by row.
+// One step of a shape that has no kinds inside, drawn inside one rectangle of its layer, row by row.
+mod flood;
 mod merge;
 mod offset;
-mod point;
-mod rows;
 
 ghost use Prim.Native.Nat.{_≤_};
-ghost use Rattle.filter.specs.declared.Primitive.the-variants as P;
-ghost use Rattle.filter.specs.Kinds.{work, reads};
+ghost use Rattle.filter.specs.Kinds.{reads};
 ghost use Rattle.filter.specs.Earlier.{Earlier};
-ghost use Rattle.filter.specs.Accepted.{Within, Bounded};
-ghost use Rattle.stage.specs.Buffers.{Sized, ValidInputs};
-ghost use Rattle.stage.specs.Shown.{shown, Tabled};
-ghost use Rattle.stage.specs.Drawn.{Drawn};
-ghost use Rattle.draw_point.specs.Pointwise.{Pointwise};
-ghost use Rattle.draw_point.specs.Row.{Drawable, TableFree};
-use filter::Input;
-use filter::Primitive;
+ghost use Rattle.filter.specs.Accepted.{Within, Measured};
+ghost use Rattle.stage.specs.Context.{OnRow, Drawable};
+ghost use Rattle.draw_point.specs.Kindless.{Kindless, ShapeDrawn};
+ghost use Rattle.draw_point.specs.Row.{Workable, WorkRow, RowDrawn};
 use filter::Rect;
-use pixel::Arithmetic;
-use pixel::Matrix;
-use rows::draw_prepared;
-use stage::Lens;
+use filter::Shape;
+use flood::paint_flood;
+use merge::paint_merge;
+use offset::paint_offset;
+use stage::Context;
+use stage::RowPart;
 
-// A kind that has no tables.
-fn draw_plain(
+// One row; `pairs` is the table of the step's space, or empty, and a, g and row are work rows.
+fn paint(
     workspace: &mut [u8],
     source: &[u8],
-    w: usize,
-    h: usize,
-    n: usize,
-    lens: Lens,
+    context: Context,
     pairs: &[u8],
-    primitive: Primitive,
-    rect: Rect,
+    shape: Shape,
+    part: RowPart,
+    a: &mut [u8],
+    g: &mut [u8],
+    row: &mut [u8],
 )
-    requires { ⌜ Drawable w h n lens (now source) (now workspace) (now pairs) primitive × Pointwise primitive × TableFree primitive × Within w h rect × (rect .left ≤ rect .right) ⌝ }
-    ensures { λ _. ⌜ Drawn w h n rect (work w h primitive (shown lens w h (now (source .entry)) (now (workspace .entry)))) (now (workspace .entry)) (now (workspace .exit)) ⌝ }
+    requires { ⌜ Workable context (now source) (now workspace) (now pairs) shape × Kindless shape × OnRow context part ⌝ }
+    requires { ⌜ WorkRow (part .from) (part .to) (now a) × WorkRow (part .from) (part .to) (now g) × WorkRow (part .from) (part .to) (now row) ⌝ }
+    ensures { λ _. ⌜ RowDrawn context shape part (now (source .entry)) (now (workspace .entry)) (now (workspace .exit)) ⌝ }
 {
-    let sums = [0u8; 1];
-    let products = [0u64; 1];
-    let luma = [0u32; 1];
-    let inverse = [0u32; 1];
-    draw_prepared(
-        workspace,
-        source,
-        w,
-        h,
-        n,
-        lens,
-        pairs,
-        primitive,
-        rect,
-        &sums,
-        &products,
-        &luma,
-        &inverse,
-    );
+    match shape {
+        Shape::Flood(p) => paint_flood(workspace, context, p, part),
+        Shape::Offset(i, dx, dy) => {
+            paint_offset(workspace, source, context, pairs, i, dx, dy, part, a)
+        }
+        Shape::Merge(count, inputs) => paint_merge(
+            workspace,
+            source,
+            context,
+            pairs,
+            count,
+            inputs,
+            part,
+            a,
+            g,
+            row,
+        ),
+        Shape::Pass(_, _, _, _) => return,
+        Shape::Map(_, _) => return,
+        Shape::Pair(_, _, _) => return,
+    }
 }
 
-// The tables of the other kinds are worked out once.
-fn draw_transform(
+// Each row of a rectangle that is not turned.
+fn paint_rows(
     workspace: &mut [u8],
     source: &[u8],
-    w: usize,
-    h: usize,
-    n: usize,
-    lens: Lens,
+    context: Context,
     pairs: &[u8],
-    i: Input,
-    matrix: Matrix,
+    shape: Shape,
     rect: Rect,
+    a: &mut [u8],
+    g: &mut [u8],
+    row: &mut [u8],
 )
-    requires { ⌜ Drawable w h n lens (now source) (now workspace) (now pairs) (P.Transform i matrix) × Within w h rect × (rect .left ≤ rect .right) ⌝ }
-    ensures { λ _. ⌜ Drawn w h n rect (work w h (P.Transform i matrix) (shown lens w h (now (source .entry)) (now (workspace .entry)))) (now (workspace .entry)) (now (workspace .exit)) ⌝ }
+    requires { ⌜ Workable context (now source) (now workspace) (now pairs) shape × Kindless shape ⌝ }
+    requires { ⌜ Within (context .w) (context .h) rect × (rect .left ≤ rect .right) ⌝ }
+    requires { ⌜ WorkRow (rect .left) (rect .right) (now a) × WorkRow (rect .left) (rect .right) (now g) × WorkRow (rect .left) (rect .right) (now row) ⌝ }
+    ensures { λ _. ⌜ ShapeDrawn context shape rect (now (source .entry)) (now (workspace .entry)) (now (workspace .exit)) ⌝ }
 {
-    let sums = [0u8; 1];
-    let mut products = [0u64; 4096];
-    let luma = [0u32; 1];
-    let mut inverse = [0u32; 512];
-    raster_color::matrix::prepare(matrix, &mut products);
-    raster_alpha::unpremultiply::prepare(&mut inverse);
-    let primitive = Primitive::Transform(i, matrix);
-    draw_prepared(
-        workspace,
-        source,
-        w,
-        h,
-        n,
-        lens,
-        pairs,
-        primitive,
-        rect,
-        &sums,
-        &products,
-        &luma,
-        &inverse,
-    );
+    let left = rect.left;
+    let right = rect.right;
+    let top = rect.top;
+    let bottom = rect.bottom;
+    for y in top..bottom {
+        let part = RowPart {
+            y,
+            from: left,
+            to: right,
+        };
+        paint(workspace, source, context, pairs, shape, part, a, g, row);
+    }
 }
 
-fn draw_luminance(
-    workspace: &mut [u8],
-    source: &[u8],
-    w: usize,
-    h: usize,
-    n: usize,
-    lens: Lens,
-    pairs: &[u8],
-    i: Input,
-    rect: Rect,
-)
-    requires { ⌜ Drawable w h n lens (now source) (now workspace) (now pairs) (P.Luminance i) × Within w h rect × (rect .left ≤ rect .right) ⌝ }
-    ensures { λ _. ⌜ Drawn w h n rect (work w h (P.Luminance i) (shown lens w h (now (source .entry)) (now (workspace .entry)))) (now (workspace .entry)) (now (workspace .exit)) ⌝ }
-{
-    let sums = [0u8; 1];
-    let products = [0u64; 1];
-    let mut luma = [0u32; 768];
-    let mut inverse = [0u32; 512];
-    raster_alpha::luminance::prepare(&mut luma);
-    raster_alpha::unpremultiply::prepare(&mut inverse);
-    let primitive = Primitive::Luminance(i);
-    draw_prepared(
-        workspace,
-        source,
-        w,
-        h,
-        n,
-        lens,
-        pairs,
-        primitive,
-        rect,
-        &sums,
-        &products,
-        &luma,
-        &inverse,
-    );
-}
-
-fn draw_combine(
-    workspace: &mut [u8],
-    source: &[u8],
-    w: usize,
-    h: usize,
-    n: usize,
-    lens: Lens,
-    pairs: &[u8],
-    coefficients: Arithmetic,
-    i: Input,
-    j: Input,
-    rect: Rect,
-)
-    requires { ⌜ Drawable w h n lens (now source) (now workspace) (now pairs) (P.Combine coefficients i j) × Within w h rect × (rect .left ≤ rect .right) ⌝ }
-    ensures { λ _. ⌜ Drawn w h n rect (work w h (P.Combine coefficients i j) (shown lens w h (now (source .entry)) (now (workspace .entry)))) (now (workspace .entry)) (now (workspace .exit)) ⌝ }
-{
-    let mut sums = [0u8; 65536];
-    let products = [0u64; 1];
-    let luma = [0u32; 1];
-    let inverse = [0u32; 1];
-    raster_arithmetic::prepare(coefficients, &mut sums);
-    let primitive = Primitive::Combine(coefficients, i, j);
-    draw_prepared(
-        workspace,
-        source,
-        w,
-        h,
-        n,
-        lens,
-        pairs,
-        primitive,
-        rect,
-        &sums,
-        &products,
-        &luma,
-        &inverse,
-    );
-}
-
-// Step n inside one rectangle; nothing else of the workspace changes.
+// The step inside one rectangle; nothing else of the workspace changes. The work rows are exactly as wide as the rectangle.
 pub fn draw_rows(
     workspace: &mut [u8],
     source: &[u8],
-    w: usize,
-    h: usize,
-    n: usize,
-    lens: Lens,
+    context: Context,
     pairs: &[u8],
-    primitive: Primitive,
+    shape: Shape,
     rect: Rect,
 )
-    requires { ⌜ Sized w h n (now source) (now workspace) × Tabled lens (now pairs) ⌝ }
-    requires { ⌜ ValidInputs n (shown lens w h (now source) (now workspace)) ⌝ }
-    requires { ⌜ Earlier n (reads primitive) × Bounded primitive × Pointwise primitive × Within w h rect ⌝ }
-    ensures { λ _. ⌜ Drawn w h n rect (work w h primitive (shown lens w h (now (source .entry)) (now (workspace .entry)))) (now (workspace .entry)) (now (workspace .exit)) ⌝ }
+    requires { ⌜ Drawable context (now source) (now workspace) (now pairs) × Earlier (context .n) (reads shape) × Measured shape × Kindless shape ⌝ }
+    requires { ⌜ Within (context .w) (context .h) rect ⌝ }
+    ensures { λ _. ⌜ ShapeDrawn context shape rect (now (source .entry)) (now (workspace .entry)) (now (workspace .exit)) ⌝ }
 {
     if rect.right <= rect.left {
         return;
     }
-    match primitive {
-        Primitive::Flood(_) => draw_plain(workspace, source, w, h, n, lens, pairs, primitive, rect),
-        Primitive::Offset(_, _, _) => {
-            draw_plain(workspace, source, w, h, n, lens, pairs, primitive, rect)
-        }
-        Primitive::Composite(_, _, _) => {
-            draw_plain(workspace, source, w, h, n, lens, pairs, primitive, rect)
-        }
-        Primitive::Merge(_, _) => {
-            draw_plain(workspace, source, w, h, n, lens, pairs, primitive, rect)
-        }
-        Primitive::Transform(i, m) => {
-            draw_transform(workspace, source, w, h, n, lens, pairs, i, m, rect)
-        }
-        Primitive::Luminance(i) => draw_luminance(workspace, source, w, h, n, lens, pairs, i, rect),
-        Primitive::Combine(k, i, j) => {
-            draw_combine(workspace, source, w, h, n, lens, pairs, k, i, j, rect)
-        }
-        Primitive::Blur(_, _, _) => return,
-        Primitive::Erode(_, _, _) => return,
-        Primitive::Dilate(_, _, _) => return,
-    }
+    let mut a = [0u8; window::ROW];
+    let mut g = [0u8; window::ROW];
+    let mut row = [0u8; window::ROW];
+    let k = 4 * (rect.right - rect.left);
+    paint_rows(
+        workspace,
+        source,
+        context,
+        pairs,
+        shape,
+        rect,
+        &mut a[..k],
+        &mut g[..k],
+        &mut row[..k],
+    );
 }

@@ -1,21 +1,18 @@
 // One row of a merge.
 ghost use mathlib.Core.Path.{_≡_};
 ghost use mathlib.Core.Bool.{true};
-ghost use Prim.Native.Nat.{_+_, _-_, _*_};
-ghost use lib.ListN.{length};
+ghost use Prim.Native.Nat.{_-_};
 ghost use Rattle.window.specs.Store.{WorkBuffer};
-ghost use Rattle.pixel.specs.declared.Operator.the-variants as op;
-ghost use Rattle.pixel.specs.Bytes.{pixelAt, Painted, ValidRow};
-ghost use Rattle.pixel.specs.Composite.{composited};
-ghost use Rattle.filter.specs.declared.Primitive.the-variants as P;
-ghost use Rattle.filter.specs.Kinds.{work};
+ghost use Rattle.pixel.specs.Bytes.{ValidRow};
+ghost use Rattle.filter.specs.declared.Shape.the-variants as S;
 ghost use Rattle.filter.specs.Checks.{allowed?};
-ghost use Rattle.stage.specs.Buffers.{rowAt, Loaded, Sized, ValidInputs};
-ghost use Rattle.stage.specs.Shown.{shown, Tabled};
-ghost use Rattle.draw_point.specs.Row.{Drawable, Span, inputAt};
+ghost use Rattle.stage.specs.Shown.{shown};
+ghost use Rattle.stage.specs.Context.{OnRow, Drawable};
+ghost use Rattle.draw_point.specs.Row.{Workable, WorkRow, RowDrawn, inputAt, RowStacked, Laid};
 use filter::Input;
 use filter::Inputs;
-use stage::Lens;
+use stage::Context;
+use stage::RowPart;
 
 fn input_at(inputs: Inputs, j: usize) -> Input
     ensures { λ r. ⌜ r ≡ inputAt inputs j ⌝ }
@@ -36,125 +33,78 @@ fn input_at(inputs: Inputs, j: usize) -> Input
 fn lay(
     workspace: &[u8],
     source: &[u8],
-    w: usize,
-    h: usize,
-    n: usize,
-    lens: Lens,
+    context: Context,
     pairs: &[u8],
     i: Input,
-    y: usize,
-    from: usize,
-    to: usize,
+    part: RowPart,
     a: &mut [u8],
     g: &mut [u8],
     under: &mut [u8],
 )
-    requires { ⌜ Sized w h n (now source) (now workspace) × Tabled lens (now pairs) ⌝ }
-    requires { ⌜ ValidInputs n (shown lens w h (now source) (now workspace)) × (allowed? n i ≡ true) × Span w h y from to ⌝ }
-    requires { ⌜ (length (now a) ≡ 4 * (to - from)) × (length (now g) ≡ 4 * (to - from)) × (length (now under) ≡ 4 * (to - from)) × ValidRow (now under) (to - from) ⌝ }
-    ensures { λ _. ⌜ Painted (λ x. composited op.Over (shown lens w h (now (source .entry)) (now (workspace .entry)) i (from + x) y) (pixelAt (now (under .entry)) (4 * x))) 0 0 (to - from) (now (under .entry)) (now (under .exit)) × ValidRow (now (under .exit)) (to - from) ⌝ }
+    requires { ⌜ Drawable context (now source) (now workspace) (now pairs) × (allowed? (context .n) i ≡ true) × OnRow context part ⌝ }
+    requires { ⌜ WorkRow (part .from) (part .to) (now a) × WorkRow (part .from) (part .to) (now g) × WorkRow (part .from) (part .to) (now under) ⌝ }
+    requires { ⌜ ValidRow (now under) (part .to - part .from) ⌝ }
+    ensures { λ _. ⌜ Laid (shown context (now (source .entry)) (now (workspace .entry)) i) part (now (under .entry)) (now (under .exit)) ⌝ }
+    ensures { λ _. ⌜ ValidRow (now (under .exit)) (part .to - part .from) ⌝ }
 {
-    stage::load(workspace, source, w, h, n, lens, pairs, i, y, from, to, a);
-    raster_composite::over_onto(&a[..], g, under, to - from);
+    stage::load(workspace, source, context, pairs, i, part, a);
+    raster_composite::over_onto(&a[..], g, under, part.to - part.from);
 }
 
 // The inputs' rows, each laid over those before it.
 fn stack(
     workspace: &[u8],
     source: &[u8],
-    w: usize,
-    h: usize,
-    n: usize,
-    lens: Lens,
+    context: Context,
     pairs: &[u8],
     count: usize,
     inputs: Inputs,
-    y: usize,
-    from: usize,
-    to: usize,
+    part: RowPart,
     a: &mut [u8],
     g: &mut [u8],
     row: &mut [u8],
 )
-    requires { ⌜ Drawable w h n lens (now source) (now workspace) (now pairs) (P.Merge count inputs) × Span w h y from to ⌝ }
-    requires { ⌜ (length (now a) ≡ 4 * (to - from)) × (length (now g) ≡ 4 * (to - from)) × (length (now row) ≡ 4 * (to - from)) ⌝ }
-    ensures { λ _. ⌜ Loaded (work w h (P.Merge count inputs) (shown lens w h (now (source .entry)) (now (workspace .entry)))) y from to (now (row .entry)) (now (row .exit)) ⌝ }
+    requires { ⌜ Workable context (now source) (now workspace) (now pairs) (S.Merge count inputs) × OnRow context part ⌝ }
+    requires { ⌜ WorkRow (part .from) (part .to) (now a) × WorkRow (part .from) (part .to) (now g) × WorkRow (part .from) (part .to) (now row) ⌝ }
+    ensures { λ _. ⌜ RowStacked (shown context (now (source .entry)) (now (workspace .entry))) inputs count part (now (row .entry)) (now (row .exit)) ⌝ }
 {
     let first = inputs.first;
-    stage::load(
-        workspace,
-        source,
-        w,
-        h,
-        n,
-        lens,
-        pairs,
-        first,
-        y,
-        from,
-        to,
-        row,
-    );
+    stage::load(workspace, source, context, pairs, first, part, row);
     for j in 1..count {
         let input = input_at(inputs, j);
-        lay(
-            workspace,
-            source,
-            w,
-            h,
-            n,
-            lens,
-            pairs,
-            input,
-            y,
-            from,
-            to,
-            a,
-            g,
-            row,
-        );
+        lay(workspace, source, context, pairs, input, part, a, g, row);
     }
 }
 
 pub fn paint_merge(
     workspace: &mut [u8],
     source: &[u8],
-    w: usize,
-    h: usize,
-    n: usize,
-    lens: Lens,
+    context: Context,
     pairs: &[u8],
     count: usize,
     inputs: Inputs,
-    y: usize,
-    from: usize,
-    to: usize,
+    part: RowPart,
     a: &mut [u8],
     g: &mut [u8],
     row: &mut [u8],
 )
-    requires { ⌜ Drawable w h n lens (now source) (now workspace) (now pairs) (P.Merge count inputs) × Span w h y from to ⌝ }
-    requires { ⌜ (length (now a) ≡ 4 * (to - from)) × (length (now g) ≡ 4 * (to - from)) × (length (now row) ≡ 4 * (to - from)) ⌝ }
-    ensures { λ _. ⌜ Painted (λ x. work w h (P.Merge count inputs) (shown lens w h (now (source .entry)) (now (workspace .entry))) x y) (rowAt w h n y) from to (now (workspace .entry)) (now (workspace .exit)) ⌝ }
+    requires { ⌜ Workable context (now source) (now workspace) (now pairs) (S.Merge count inputs) × OnRow context part ⌝ }
+    requires { ⌜ WorkRow (part .from) (part .to) (now a) × WorkRow (part .from) (part .to) (now g) × WorkRow (part .from) (part .to) (now row) ⌝ }
+    ensures { λ _. ⌜ RowDrawn context (S.Merge count inputs) part (now (source .entry)) (now (workspace .entry)) (now (workspace .exit)) ⌝ }
     ensures { λ _. ⌜ WorkBuffer (now (a .entry)) (now (a .exit)) × WorkBuffer (now (g .entry)) (now (g .exit)) ⌝ }
     ensures { λ _. ⌜ WorkBuffer (now (row .entry)) (now (row .exit)) ⌝ }
 {
     stack(
         &workspace[..],
         source,
-        w,
-        h,
-        n,
-        lens,
+        context,
         pairs,
         count,
         inputs,
-        y,
-        from,
-        to,
+        part,
         a,
         g,
         row,
     );
-    stage::store(workspace, w, h, n, y, from, to, &row[..], 0);
+    stage::store(workspace, context, part, &row[..], 0);
 }

@@ -1,6 +1,6 @@
 -- A rule for lines, along the rows and along the columns of a picture. Only the code needs these definitions: no promise to a
 -- caller cites them. Assumes nothing.
-use Prim.Native.Nat.{ℕ, _<_}
+use Prim.Native.Nat.{ℕ, _+_, _-_, _<_}
 use mathlib.Core.Path.{_≡_}
 use mathlib.Core.List.{List}
 use lib.ListN.{length}
@@ -8,6 +8,7 @@ use Rattle.window.specs.Store.{byteAt}
 use Rattle.window.specs.Window.{column}
 use Rattle.pixel.specs.declared.Pixel.{Pixel}
 use Rattle.pixel.specs.Alpha.{pixel}
+use Rattle.pixel.specs.Bytes.{Painted}
 use Rattle.filter.specs.Picture.{Picture, each}
 
 -- what a line of n places becomes
@@ -25,6 +26,10 @@ downOf rule h p = each (λ q x y. rule h (λ v. q x v) y) p
 unfoldable pub alongRow : Rule → List ℕ → ℕ → ℕ → Pixel
 alongRow rule d count x =
     pixel (rule count (column d 0 4 count 0) x) (rule count (column d 0 4 count 1) x) (rule count (column d 0 4 count 2) x) (rule count (column d 0 4 count 3) x)
+
+-- width of these pixels, from x = skip on, are now the pixels of dst from `at` on
+abbrev pub RowWorked : Rule → List ℕ → ℕ → ℕ → ℕ → ℕ → List ℕ → List ℕ → Type 0
+RowWorked rule d count skip at width dst dst′ = Painted (λ j. alongRow rule d count (skip + (j - at))) 0 at (at + width) dst dst′
 
 -- the lines at r of d′ are those at the start of d, worked by the rule along their columns
 pub record Worked (rule : Rule) (r n count : ℕ) (d d′ : List ℕ) : Type 0 where

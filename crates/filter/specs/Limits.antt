@@ -6,6 +6,10 @@ pub use Rattle.window.specs.Limits.{longestSide, longestRow, mostPixels}
 abbrev pub mostSteps : ℕ
 mostSteps = 64
 
+-- the numbers that a step has room for (RULES 5.1)
+abbrev pub mostNumbers : ℕ
+mostNumbers = 20
+
 -- a side of a text's canvas, at most, and the bytes of such a picture (RULES 9.2)
 abbrev pub longestTextSide : ℕ
 longestTextSide = 16

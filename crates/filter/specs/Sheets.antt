@@ -7,12 +7,13 @@ use Rattle.pixel.specs.Convert.{converted}
 use Rattle.filter.specs.declared.Input as I
 use Rattle.filter.specs.declared.Input.the-variants.{Source, SourceAlpha, Layer}
 use Rattle.filter.specs.declared.Rect.{Rect}
+use Rattle.filter.specs.declared.Resolved.{Resolved}
 use Rattle.filter.specs.declared.Step.{Step}
 use Rattle.filter.specs.Rect.{boundsOf, canvasOf, meet}
 use Rattle.filter.specs.Effect.{Env, Effect}
 use Rattle.filter.specs.Layers.{reached}
 use Rattle.filter.specs.Kinds.{work, reads}
-use Rattle.filter.specs.Steps.{resolved, stepAt}
+use Rattle.filter.specs.Steps.{shaped, resolved, stepAt}
 
 -- "The source is sRGB. A layer is kept in its step's space"
 unfoldable pub spaceOf : List Step → I.Input → S.Space
@@ -24,13 +25,12 @@ spaceOf steps (Layer n) = stepAt steps n .space
 abbrev pub seen : (I.Input → S.Space) → S.Space → Env → Env
 seen spaces s E i x y = converted (spaces i) s (E i x y)
 
--- a step as an effect on a canvas of w by h, its inputs kept in these spaces
+-- a resolved step as an effect on a canvas of w by h: its region by its bounds, its inputs kept in these spaces and seen in its own
+abbrev pub effectBy : ℕ → ℕ → (I.Input → S.Space) → S.Space → Resolved → Rect → Effect
+effectBy w h spaces s r region = record { work = λ E. work w h r (seen spaces s E); reads = reads (r .shape); region = region }
+
 unfoldable pub effectOf : ℕ → ℕ → (I.Input → S.Space) → Step → Effect
-effectOf w h spaces s = record {
-  work = λ E. work w h (resolved s) (seen spaces (s .space) E);
-  reads = reads (resolved s);
-  region = boundsOf (s .region);
-}
+effectOf w h spaces s = effectBy w h spaces (s .space) (resolved s) (boundsOf (s .region))
 
 -- step n of a sheet
 abbrev pub effectsOf : ℕ → ℕ → List Step → ℕ → Effect
@@ -38,4 +38,4 @@ effectsOf w h steps n = effectOf w h (spaceOf steps) (stepAt steps n)
 
 -- a step's redraw rectangle from those of its inputs, in whatever spaces these are kept
 abbrev pub damageOf : ℕ → ℕ → Step → (I.Input → Rect) → Rect
-damageOf w h s z = meet (meet (canvasOf w h) (boundsOf (s .region))) (reached (reads (resolved s)) z)
+damageOf w h s z = meet (meet (canvasOf w h) (boundsOf (s .region))) (reached (reads (shaped s)) z)

@@ -24,8 +24,8 @@ use Rattle.filter.specs.declared.Step.{Step}
 use Rattle.filter.specs.Rect.{canvasOf, inside}
 use Rattle.filter.specs.Picture.{blank, patch}
 use Rattle.filter.specs.Layers.{rendered, replaced, initial}
-use Rattle.filter.specs.Kinds.{shifted, stacked, work}
-use Rattle.filter.specs.Steps.{noWire, noOperand, resolved}
+use Rattle.filter.specs.Kinds.{shifted, stacked, workOf}
+use Rattle.filter.specs.Steps.{noWire, noOperand, shaped}
 use Rattle.filter.specs.Sheets.{spaceOf, effectOf, effectsOf}
 
 -- a step of two inputs and one number in ten-thousandths, the others 0
@@ -76,7 +76,8 @@ pub record Converts : Type 0 where
   pub merged-linear : layerOf (flood Linear 255 128 0 ∷ merge Linear Source (Layer 0) ∷ []) (pixel 0 0 128 255) 1 ≡ pixel 128 28 27 255
 
 pub converts : Converts
-unfolding differ? converted remapped toLinear toSrgb flooded composited merged spaceOf effectOf resolved work shifted stacked rendered replaced initial patch inside judgedRatio nearest
+unfolding differ? converted remapped toLinear toSrgb flooded composited merged spaceOf effectOf shaped workOf shifted
+    stacked rendered replaced initial patch inside judgedRatio nearest
 converts = record {
   floods = refl;
   as-made = refl;

@@ -2,12 +2,11 @@
 ghost use mathlib.Core.Path.{_≡_};
 ghost use Prim.Native.Nat.{_*_, _≤_};
 ghost use lib.ListN.{length};
-ghost use Rattle.pixel.specs.Arithmetic.{combined};
 ghost use Rattle.pixel.specs.Bytes.{pixelAt, Painted, ValidRow};
 ghost use Rattle.pixel.specs.Matrix.{transformed, saturation, luminance};
 ghost use Rattle.pixel.specs.Coefficient.{AllowedArithmetic, AllowedMatrix};
 ghost use Rattle.raster_alpha.specs.Tables.{Unpremultiplies, Weighs};
-ghost use Rattle.raster_arithmetic.specs.Tables.{Combines};
+ghost use Rattle.raster_arithmetic.specs.Tables.{Combines, combinedAt};
 ghost use Rattle.raster_color.specs.Tables.{Mixes};
 ghost use Rattle.window.specs.Limits.{longestSide};
 ghost use Rattle.kernels.specs.Named.{arithmetic};
@@ -75,7 +74,7 @@ pub extern "C" fn twillgoose_kernel_combine_row(
 )
     requires { ⌜ (k1 ≤ 16777216) × (k2 ≤ 16777216) × (k3 ≤ 16777216) × (k4 ≤ 16777216) × Combines (arithmetic k1 k2 k3 k4) (now table) ⌝ }
     requires { ⌜ (length (now a) ≡ 4 * n) × (length (now b) ≡ 4 * n) × (length (now dst) ≡ 4 * n) ⌝ }
-    ensures { λ _. ⌜ Painted (λ x. combined (arithmetic k1 k2 k3 k4) (pixelAt (now (a .entry)) (4 * x)) (pixelAt (now (b .entry)) (4 * x))) 0 0 n (now (dst .entry)) (now (dst .exit)) ⌝ }
+    ensures { λ _. ⌜ Painted (combinedAt (arithmetic k1 k2 k3 k4) (now (a .entry)) (now (b .entry))) 0 0 n (now (dst .entry)) (now (dst .exit)) ⌝ }
 {
     raster_arithmetic::combine_row(arithmetic_of(k1, k2, k3, k4), table, a, b, dst, n);
 }

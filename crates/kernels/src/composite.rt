@@ -3,8 +3,8 @@ ghost use mathlib.Core.Path.{_≡_};
 ghost use Prim.Native.Nat.{_*_};
 ghost use lib.ListN.{length};
 ghost use Rattle.window.specs.Store.{WorkBuffer};
-ghost use Rattle.pixel.specs.Bytes.{pixelAt, Painted, ValidRow};
-ghost use Rattle.pixel.specs.Composite.{composited};
+ghost use Rattle.pixel.specs.Bytes.{Painted, ValidRow};
+ghost use Rattle.raster_composite.specs.Row.{compositedAt};
 ghost use Rattle.kernels.specs.Named.{operatorAt};
 use pixel::Operator;
 
@@ -38,7 +38,7 @@ pub extern "C" fn twillgoose_kernel_composite_row(
 )
     requires { ⌜ (length (now a) ≡ 4 * n) × (length (now b) ≡ 4 * n) × (length (now f) ≡ 4 * n) × (length (now g) ≡ 4 * n) × (length (now dst) ≡ 4 * n) ⌝ }
     requires { ⌜ ValidRow (now a) n × ValidRow (now b) n ⌝ }
-    ensures { λ _. ⌜ Painted (λ x. composited (operatorAt op) (pixelAt (now (a .entry)) (4 * x)) (pixelAt (now (b .entry)) (4 * x))) 0 0 n (now (dst .entry)) (now (dst .exit)) ⌝ }
+    ensures { λ _. ⌜ Painted (compositedAt (operatorAt op) (now (a .entry)) (now (b .entry))) 0 0 n (now (dst .entry)) (now (dst .exit)) ⌝ }
     ensures { λ _. ⌜ WorkBuffer (now (f .entry)) (now (f .exit)) × WorkBuffer (now (g .entry)) (now (g .exit)) ⌝ }
 {
     raster_composite::composite_row(operator_at(op), a, b, f, g, dst, n);

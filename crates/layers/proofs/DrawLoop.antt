@@ -20,8 +20,9 @@ use Rattle.filter.specs.Rect.{empty}
 use Rattle.filter.specs.Steps.{stepAt}
 use Rattle.filter.specs.Answers.{accepted?}
 use Rattle.filter.specs.Limits.{mostSteps}
-use Rattle.plan.specs.declared.SoFar.{SoFar}
-use Rattle.plan.proofs.SoFar as D
+use Rattle.damage.specs.declared.SoFar.{SoFar}
+use Rattle.damage.proofs.SoFar as D
+use Rattle.layers.specs.Given.{giving}
 use Rattle.layers.specs.Drawing.{ReadyFor, Drawing}
 use Rattle.layers.specs.Next.{NextReady, NextDrawn, ScratchAfter}
 use Rattle.layers.proofs.Progress.{Progress, progress-none, progress-ready, progress-more, progress-done}
@@ -87,5 +88,5 @@ module _ (call : Call) (sheet : Sheet) (ans : Answer) (ys : List Step) (src ws�
     pub ready : (t : Stt) → t .n < sheet .count → accepted? ans ≡ true → NextReady call sheet (t .n) (stepAt ys (t .n)) (t .d) src (t .ws) (t .sc)
     ready t l = progress-ready sheet ys src ws₀ sc₀ call ans R (t .n) l (t .ws) (t .sc) (t .d) (t .is)
 
-    pub last : (t : Stt) → sheet .count ≤ t .n → Drawing call sheet ans ys src ws₀ sc₀ (t .ws) (t .sc) (t .d .count)
+    pub last : (t : Stt) → sheet .count ≤ t .n → Drawing (giving call sheet ys src ws₀ sc₀) ans (t .ws) (t .sc) (t .d .count)
     last t l = progress-done sheet ys src ws₀ sc₀ call ans R (t .ws) (t .sc) (t .d) (subst (λ (k : ℕ). Progress sheet ys src ws₀ sc₀ call ans k (t .ws) (t .sc) (t .d)) (let e : t .n ≡ sheet .count = omega (arith, t .few) in e) (t .is))

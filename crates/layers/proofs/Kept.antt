@@ -1,6 +1,6 @@
 -- The spaces of the layers so far, as the loop holds them, are those of their steps. Assumes nothing.
 use Prim.Native.Nat.{ℕ, suc, _+_, _<_}
-use mathlib.Core.Path.{_≡_, refl, sym, ap, _∙_, fun-ext}
+use mathlib.Core.Path.{_≡_, refl, _∙_}
 use mathlib.Core.Bool.{Bool, true, false, cond}
 use mathlib.Core.List.{List}
 use native.Mathlib.Omega.{arith}
@@ -18,9 +18,8 @@ use Rattle.filter.specs.Checks.{allowed?}
 use Rattle.filter.specs.Limits.{mostSteps}
 use Rattle.filter.specs.Steps.{stepAt}
 use Rattle.filter.specs.Sheets.{spaceOf}
-use Rattle.plan.specs.declared.SoFar.{SoFar}
-use Rattle.stage.specs.declared.Lens.{Lens}
-use Rattle.stage.specs.Shown.{spacesIn}
+use Rattle.damage.specs.declared.SoFar.{SoFar}
+use Rattle.stage.specs.Shown.{spacesBy}
 use Rattle.layers.specs.Next.{keptIn}
 
 -- after n steps
@@ -46,17 +45,7 @@ by-source Srgb = refl
 by-source Linear = refl
 
 pub kept-spaces : (steps : List Step) (n : ℕ) (z : SoFar) → Kept steps n (z .linear) → (i : Input) → allowed? n i ≡ true → keptIn z i ≡ spaceOf steps i
-unfolding keptIn spaceOf
+unfolding spacesBy spaceOf
 kept-spaces steps n z K Source t = refl
 kept-spaces steps n z K SourceAlpha t = refl
 kept-spaces steps n z K (Layer k) t = rw (K .each k (ltb-true k n t)) (by-source (stepAt steps k .space))
-
--- a lens that has them
-pub lens-kept : (lens : Lens) (z : SoFar) → lens .linear ≡ z .linear → spacesIn lens ≡ keptIn z
-unfolding spacesIn keptIn
-lens-kept lens z e = fun-ext go
-  where
-    go : (i : Input) → spacesIn lens i ≡ keptIn z i
-    go Source = refl
-    go SourceAlpha = refl
-    go (Layer k) = ap (λ (zs : List Bool). cond (getD zs k false) Linear Srgb) e

@@ -1,5 +1,6 @@
 -- Laws of the loops over the steps of a sheet.
 pub mod Regions
+pub mod StepInContext
 pub mod Standing
 pub mod Kept
 pub mod Rendering

@@ -21,8 +21,9 @@ use Rattle.filter.proofs.Spaces.{damage-is}
 use Rattle.filter.specs.Answers.{accepted?}
 use Rattle.filter.specs.Accepted.{Within, OnCanvas}
 use Rattle.filter.specs.Limits.{mostSteps}
-use Rattle.plan.specs.declared.SoFar.{SoFar}
-use Rattle.plan.proofs.Damaged.{Going, going-none, going-within, going-more}
+use Rattle.damage.specs.declared.SoFar.{SoFar}
+use Rattle.damage.proofs.Damaged.{Going, going-none, going-within, going-more}
+use Rattle.layers.specs.Given.{giving}
 use Rattle.layers.specs.Drawing.{drawnOf, countFor, ReadyFor, Drawing}
 use Rattle.layers.specs.Next.{StepReady, RectsReady, NextReady, keptIn, stepRect, StepDrawn, NextDrawn, ScratchAfter}
 use Rattle.layers.proofs.Kept.{Kept, kept-none, kept-more, kept-spaces}
@@ -113,5 +114,5 @@ module _ (sheet : Sheet) (steps : List Step) (src ws scr : List ℕ) where
               (e .0 ∙ p .0, S .refused a ∙ p .1, ap (λ (x : SoFar). x .count) (e .1) ∙ p .2);
         }
 
-      pub progress-done : (d s : List ℕ) (z : SoFar) → Progress call answer count d s z → Drawing call sheet answer steps src ws scr d s (z .count)
+      pub progress-done : (d s : List ℕ) (z : SoFar) → Progress call answer count d s z → Drawing (giving call sheet steps src ws scr) answer d s (z .count)
       progress-done d s z P = record { drawn = λ a. stands-done d s z call (R a) (P .drawn a); refused = P .refused }

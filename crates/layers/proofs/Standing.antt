@@ -17,7 +17,7 @@ use Rattle.filter.specs.Picture.{Picture, blank, patch}
 use Rattle.filter.specs.Effect.{Env}
 use Rattle.filter.specs.Kinds.{reads}
 use Rattle.filter.specs.Layers.{replaced, initial, bounds, result}
-use Rattle.filter.specs.Steps.{resolved}
+use Rattle.filter.specs.Steps.{shaped, valuesOf}
 use Rattle.filter.specs.Sheets.{seen, effectOf}
 use Rattle.filter.specs.Bytes.{size, read}
 use Rattle.filter.specs.Checks.{allowed?}
@@ -47,11 +47,11 @@ seen-agree n S T s E F k a = record {
 }
 
 -- a step's layer comes from what it may read
-pub result-same : (w h n : ℕ) (s : Step) (S T : Input → Space) (E F : Env) → Earlier n (reads (resolved s)) → ((i : Input) → allowed? n i ≡ true → S i ≡ T i)
+pub result-same : (w h n : ℕ) (s : Step) (S T : Input → Space) (E F : Env) → Earlier n (reads (shaped s)) → ((i : Input) → allowed? n i ≡ true → S i ≡ T i)
     → AgreeBefore n E F → result (canvasOf w h) (effectOf w h S s) E ≡ result (canvasOf w h) (effectOf w h T s) F
 unfolding effectOf
 result-same w h n s S T E F e k a =
-    ap (λ (p : Picture). patch (bounds (canvasOf w h) (effectOf w h S s)) p blank) (work-same w h n s _ _ e (seen-agree n S T (s .space) E F k a))
+    ap (λ (p : Picture). patch (bounds (canvasOf w h) (effectOf w h S s)) p blank) (work-same w h n (shaped s) (valuesOf s) _ _ e (seen-agree n S T (s .space) E F k a))
 
 -- there is room for each layer
 pub ready-sized : (w h : ℕ) (steps : List Step) (count : ℕ) (src ws scr : List ℕ) → Ready w h steps count src ws scr

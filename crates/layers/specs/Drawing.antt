@@ -19,6 +19,7 @@ use Rattle.filter.specs.Bytes.{Holds, layersOf, redrawnOf}
 use Rattle.filter.specs.Answers.{accepted?}
 use Rattle.filter.specs.Accepted.{OnCanvas}
 use Rattle.filter.specs.Valid.{FloodBytes}
+use Rattle.layers.specs.Given.{Given}
 use Rattle.layers.specs.Ready.{Ready, ValidLayers}
 
 -- the layers that a call leaves: all of them anew, or those in the workspace redrawn
@@ -37,9 +38,11 @@ pub record ReadyFor (call : Call) (sheet : Sheet) (steps : List Step) (src ws sc
   pub floods : (k : ℕ) → k < sheet .count → FloodBytes (stepAt steps k .kind)
   pub redraw : (g : Region) → call ≡ C.Redraw g → ValidLayers (sheet .width) (sheet .height) (sheet .count) ws × OnCanvas (sheet .width) (sheet .height) g
 
--- what is left of it: ws′ and scr′ are the workspace and the scratch after it, total is the count of pixels
-pub record Drawing (call : Call) (sheet : Sheet) (answer : Answer) (steps : List Step) (src ws scr ws′ scr′ : List ℕ) (total : ℕ) : Type 0 where
+-- what is left of g: ws′ and scr′ are the workspace and the scratch after it, total is the count of pixels
+pub record Drawing (g : Given) (answer : Answer) (ws′ scr′ : List ℕ) (total : ℕ) : Type 0 where
   pub drawn : accepted? answer ≡ true
-      → Holds (sheet .width) (sheet .height) (sheet .count) ws′ (drawnOf call (sheet .width) (sheet .height) steps (sheet .count) ws src)
-      × (length scr′ ≡ length scr) × (total ≡ countFor call (sheet .width) (sheet .height) steps (sheet .count))
-  pub refused : accepted? answer ≡ false → (ws′ ≡ ws) × (scr′ ≡ scr) × (total ≡ 0)
+      → Holds (g .sheet .width) (g .sheet .height) (g .sheet .count) ws′
+      (drawnOf (g .call) (g .sheet .width) (g .sheet .height) (g .steps) (g .sheet .count) (g .workspace) (g .source))
+      × (length scr′ ≡ length (g .scratch))
+      × (total ≡ countFor (g .call) (g .sheet .width) (g .sheet .height) (g .steps) (g .sheet .count))
+  pub refused : accepted? answer ≡ false → (ws′ ≡ g .workspace) × (scr′ ≡ g .scratch) × (total ≡ 0)

@@ -1,4 +1,6 @@
--- What a checked call asks of its steps, and what they leave.
+-- What a call is given, what a checked one asks of its steps, and what they leave.
+pub mod Given
 pub mod Ready
 pub mod Drawing
+pub mod InContext
 pub mod Next

@@ -1,14 +1,13 @@
 -- One step of a call: what it asks, and what it leaves. Only the code's own steps cite it. Assumes nothing.
 use Prim.Native.Nat.{ℕ, _+_, _*_, _≤_}
 use mathlib.Core.Path.{_≡_}
-use mathlib.Core.Bool.{true, false, cond}
+use mathlib.Core.Bool.{true, false}
 use mathlib.Core.List.{List}
-use lib.ListN.{length, getD, set}
+use lib.ListN.{length, set}
 use Rattle.pixel.specs.declared.Space as S
-use Rattle.pixel.specs.declared.Space.the-variants.{Srgb, Linear}
+use Rattle.pixel.specs.declared.Space.the-variants.{Srgb}
 use Rattle.pixel.specs.Convert.{differ?}
 use Rattle.filter.specs.declared.Input.{Input}
-use Rattle.filter.specs.declared.Input.the-variants.{Source, SourceAlpha, Layer}
 use Rattle.filter.specs.declared.Rect.{Rect}
 use Rattle.filter.specs.declared.Region.{Region}
 use Rattle.filter.specs.declared.Step.{Step}
@@ -25,9 +24,10 @@ use Rattle.filter.specs.Answers.{accepted?}
 use Rattle.filter.specs.Accepted.{AcceptedStep}
 use Rattle.filter.specs.Limits.{mostPixels}
 use Rattle.stage.specs.Buffers.{stands, Sized, ValidInputs}
+use Rattle.stage.specs.Shown.{spacesBy}
 use Rattle.stage.specs.Stood.{Stood}
-use Rattle.plan.specs.declared.SoFar.{SoFar}
-use Rattle.plan.specs.Damage.{rectOf, AllWithin}
+use Rattle.damage.specs.declared.SoFar.{SoFar}
+use Rattle.damage.specs.Damage.{rectOf, AllWithin}
 
 -- what step n asks of the buffers, in a render as in a redraw
 pub record StepReady (w h n : ℕ) (step : Step) (src ws scr : List ℕ) : Type 0 where
@@ -46,10 +46,8 @@ pub record NextReady (call : Call) (sheet : Sheet) (n : ℕ) (step : Step) (so-f
   pub rects : (g : Region) → call ≡ C.Redraw g → RectsReady (sheet .width) (sheet .height) n g so-far
 
 -- the spaces that the layers so far are kept in
-unfoldable pub keptIn : SoFar → Input → S.Space
-keptIn so-far Source = Srgb
-keptIn so-far SourceAlpha = Srgb
-keptIn so-far (Layer k) = cond (getD (so-far .linear) k false) Linear Srgb
+abbrev pub keptIn : SoFar → Input → S.Space
+keptIn so-far = spacesBy (so-far .linear)
 
 -- a render's step, and a redraw's: ws′ is the workspace after it, now what it leaves to the next
 pub record Rendered (w h n : ℕ) (step : Step) (src ws ws′ : List ℕ) (so-far now : SoFar) : Type 0 where

@@ -1,5 +1,5 @@
 // The steps of a sheet, which stand in a lent list: checked one after another, then drawn, each layer whole or in its redraw rectangle only.
-mod lenses;
+mod contexts;
 pub mod steps;
 
 ghost use mathlib.Core.Path.{_≡_};
@@ -10,14 +10,15 @@ ghost use Rattle.filter.specs.Answers.{accepted?};
 ghost use Rattle.filter.specs.Checks.{stepsAnswer};
 ghost use Rattle.filter.specs.Steps.{stepAt};
 ghost use Rattle.filter.specs.Valid.{FloodBytes};
+ghost use Rattle.layers.specs.Given.{given};
 ghost use Rattle.layers.specs.Drawing.{ReadyFor, Drawing};
+use checks::checks::check_next;
+use damage::SoFar;
+use damage::progress::none_so_far;
 use filter::Answer;
 use filter::Call;
 use filter::Sheet;
 use filter::Step;
-use plan::SoFar;
-use plan::checks::check_next;
-use plan::progress::none_so_far;
 use steps::draw_next;
 
 // Checks 7 to 11 and 13 of the first `count` steps.
@@ -47,7 +48,7 @@ pub fn draw_steps(
 ) -> SoFar
     requires { ⌜ sheet .count ≤ length (now steps) ⌝ }
     requires { ⌜ (accepted? answer ≡ true → ReadyFor call sheet (now steps) (now source) (now workspace) (now scratch)) ⌝ }
-    ensures { λ d. ⌜ Drawing call sheet answer (now (steps .entry)) (now (source .entry)) (now (workspace .entry)) (now (scratch .entry)) (now (workspace .exit)) (now (scratch .exit)) (d .count) ⌝ }
+    ensures { λ d. ⌜ Drawing (given call sheet steps source workspace scratch) answer (now (workspace .exit)) (now (scratch .exit)) (d .count) ⌝ }
 {
     let count = sheet.count;
     let mut so_far = none_so_far();

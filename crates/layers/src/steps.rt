@@ -1,59 +1,45 @@
 // One step of a full render, one of a redraw, and one of either.
 ghost use mathlib.Core.Path.{_≡_};
-ghost use Prim.Native.Nat.{ℕ, _*_};
-ghost use lib.ListN.{length};
-ghost use Rattle.window.specs.Store.{WorkBuffer};
-ghost use Rattle.filter.specs.Rect.{In, canvasOf};
-ghost use Rattle.filter.specs.Picture.{patch};
-ghost use Rattle.filter.specs.Layers.{result, bounds as boundsOn};
-ghost use Rattle.filter.specs.Sheets.{effectOf};
-ghost use Rattle.filter.specs.Accepted.{Within, AcceptedStep};
-ghost use Rattle.filter.specs.Bytes.{size, read};
-ghost use Rattle.stage.specs.Buffers.{stands, Sized, ValidInputs};
-ghost use Rattle.stage.specs.Shown.{spacesIn};
-ghost use Rattle.stage.specs.Stood.{Stood};
 ghost use mathlib.Core.Bool.{true};
+ghost use Rattle.window.specs.Store.{WorkBuffer};
 ghost use Rattle.filter.specs.Answers.{accepted?};
+ghost use Rattle.layers.specs.InContext.{ContextReady, RectInside, ContextRendered, ContextRedrawn};
 ghost use Rattle.layers.specs.Next.{StepReady, RectsReady, NextReady, Rendered, Redrawn, NextDrawn, ScratchAfter};
-use super::lenses::lens_for;
+use super::contexts::context_for;
+use checks::answers::is_accepted;
+use damage::SoFar;
+use damage::damage::damage_of;
+use damage::progress::with_rect;
+use damage::progress::with_space;
+use damage::rectangle::area;
+use damage::rectangle::bounds;
+use damage::resolve::resolve;
 use draw::clear_around;
 use draw::draw;
 use filter::Answer;
 use filter::Call;
 use filter::Rect;
 use filter::Region;
+use filter::Resolved;
 use filter::Sheet;
 use filter::Step;
-use plan::SoFar;
-use plan::answers::is_accepted;
-use plan::damage::step_damage;
-use plan::progress::with_rect;
-use plan::progress::with_space;
-use plan::rectangle::area;
-use plan::rectangle::bounds;
-use plan::resolve::resolve;
-use stage::Lens;
+use stage::Context;
 
-// A full render's step, seen through its lens: its region is drawn, and its layer is transparent black around it.
+// A full render's step: its region is drawn, and its layer is transparent black around it.
 pub fn render_step(
     workspace: &mut [u8],
     source: &[u8],
     scratch: &mut [u8],
-    w: usize,
-    h: usize,
-    n: usize,
-    lens: Lens,
-    step: Step,
+    context: Context,
+    step: Resolved,
+    region: Rect,
 )
-    requires { ⌜ Sized w h n (now source) (now workspace) × (length (now scratch) ≡ 2 * size w h) × ValidInputs n (stands w h (now source) (now workspace)) ⌝ }
-    requires { ⌜ AcceptedStep w h n step × (lens .space ≡ step .space) ⌝ }
-    ensures { λ _. ⌜ Stood w h n (result (canvasOf w h) (effectOf w h (spacesIn lens) step) (stands w h (now (source .entry)) (now (workspace .entry)))) (now (workspace .entry)) (now (workspace .exit)) ⌝ }
+    requires { ⌜ ContextReady context step region (now source) (now workspace) (now scratch) ⌝ }
+    ensures { λ _. ⌜ ContextRendered context step region (now (source .entry)) (now (workspace .entry)) (now (workspace .exit)) ⌝ }
     ensures { λ _. ⌜ WorkBuffer (now (scratch .entry)) (now (scratch .exit)) ⌝ }
 {
-    let primitive = resolve(step);
-    let region = bounds(step.region);
-    clear_around(workspace, w, h, n, region);
-    draw(workspace, source, scratch, w, h, n, lens, primitive, region);
+    clear_around(workspace, context, region);
+    draw(workspace, source, scratch, context, step, region);
 }
 
 // A redraw's step: its rectangle is drawn.
@@ -61,29 +47,16 @@ pub fn redraw_step(
     workspace: &mut [u8],
     source: &[u8],
     scratch: &mut [u8],
-    w: usize,
-    h: usize,
-    n: usize,
-    lens: Lens,
-    step: Step,
+    context: Context,
+    step: Resolved,
+    region: Rect,
     rect: Rect,
 )
-    requires { ⌜ Sized w h n (now source) (now workspace) × (length (now scratch) ≡ 2 * size w h) × ValidInputs n (stands w h (now source) (now workspace)) ⌝ }
-    requires { ⌜ AcceptedStep w h n step × (lens .space ≡ step .space) × ((x y : ℕ) → In rect x y → In (boundsOn (canvasOf w h) (effectOf w h (spacesIn lens) step)) x y) × Within w h rect ⌝ }
-    ensures { λ _. ⌜ Stood w h n (patch rect (result (canvasOf w h) (effectOf w h (spacesIn lens) step) (stands w h (now (source .entry)) (now (workspace .entry)))) (read w h (now (workspace .entry)) (n * size w h))) (now (workspace .entry)) (now (workspace .exit)) ⌝ }
+    requires { ⌜ ContextReady context step region (now source) (now workspace) (now scratch) × RectInside context region rect ⌝ }
+    ensures { λ _. ⌜ ContextRedrawn context step region rect (now (source .entry)) (now (workspace .entry)) (now (workspace .exit)) ⌝ }
     ensures { λ _. ⌜ WorkBuffer (now (scratch .entry)) (now (scratch .exit)) ⌝ }
 {
-    draw(
-        workspace,
-        source,
-        scratch,
-        w,
-        h,
-        n,
-        lens,
-        resolve(step),
-        rect,
-    );
+    draw(workspace, source, scratch, context, step, rect);
 }
 
 // What it leaves to the next step is its space.
@@ -100,12 +73,10 @@ fn render_next(
     ensures { λ o. ⌜ Rendered (sheet .width) (sheet .height) n step (now (source .entry)) (now (workspace .entry)) (now (workspace .exit)) before o ⌝ }
     ensures { λ _. ⌜ WorkBuffer (now (scratch .entry)) (now (scratch .exit)) ⌝ }
 {
-    let w = sheet.width;
-    let h = sheet.height;
     let space = step.space;
-    let region = step.region;
-    let lens = lens_for(before, step, region.width * region.height);
-    render_step(workspace, source, scratch, w, h, n, lens, step);
+    let region = bounds(step.region);
+    let context = context_for(sheet, n, step, before, area(region));
+    render_step(workspace, source, scratch, context, resolve(step), region);
     with_space(before, n, space)
 }
 
@@ -125,13 +96,21 @@ fn redraw_next(
     ensures { λ o. ⌜ Redrawn (sheet .width) (sheet .height) n named step (now (source .entry)) (now (workspace .entry)) (now (workspace .exit)) before o ⌝ }
     ensures { λ _. ⌜ WorkBuffer (now (scratch .entry)) (now (scratch .exit)) ⌝ }
 {
-    let w = sheet.width;
-    let h = sheet.height;
     let space = step.space;
+    let region = bounds(step.region);
     let rects = before.rects;
-    let rect = step_damage(w, h, step, bounds(named), rects);
-    let lens = lens_for(before, step, area(rect));
-    redraw_step(workspace, source, scratch, w, h, n, lens, step, rect);
+    let made = resolve(step);
+    let shape = made.shape;
+    let rect = damage_of(
+        sheet.width,
+        sheet.height,
+        shape,
+        region,
+        bounds(named),
+        rects,
+    );
+    let context = context_for(sheet, n, step, before, area(rect));
+    redraw_step(workspace, source, scratch, context, made, region, rect);
     with_space(with_rect(before, n, rect), n, space)
 }
 

@@ -18,7 +18,7 @@ use Rattle.filter.specs.Bytes.{bytesOf, layersOf}
 use Rattle.filter.specs.Answers.{accepted?}
 use Rattle.filter.specs.Checks.{answerOf}
 use Rattle.filter.proofs.Refusals.{else-accepted}
-use Rattle.plan.proofs.Acceptance.{accepted-sizes}
+use Rattle.checks.proofs.Acceptance.{accepted-sizes}
 use Rattle.text.specs.declared.Form.{Form}
 use Rattle.text.specs.declared.Reading.{Reading}
 use Rattle.text.specs.declared.ReadAnswer.the-variants.{Done, Line, Records}
@@ -26,7 +26,7 @@ use Rattle.text.specs.Texts.{current}
 use Rattle.text.specs.Reading.{textIn, stepsIn, firstLine, refusal, allRead, readingOf}
 use Rattle.text.proofs.Bounded.{reading-bounded}
 use Rattle.render.specs.Promise.{taken, drawnBytes}
-use Rattle.lines.specs.Lines.{readingIn, listIn, sheetIn, answerIn, layersIn}
+use Rattle.lines.specs.Lines.{readingIn, listIn, sheetIn, givingText, answerIn, layersIn}
 
 count-steps : (form : Form) (s : List ℕ) (room : ℕ) → readingOf form s room .count ≤ length (stepsIn form s)
 unfolding readingOf
@@ -47,21 +47,21 @@ module _ (form : Form) (s : List ℕ) (w h : ℕ) where
       (arith, length-append (take count (stepsIn form s)) (drop count (replicate mostSteps blankStep)), length-take count (stepsIn form s), length-drop count (replicate mostSteps blankStep), length-replicate {A = Step} mostSteps blankStep, count-steps form s mostSteps, reading-bounded form s mostSteps .few)
 
   -- the layers of an accepted full render
-  pub render-bytes : (a : Answer) (src ws : List ℕ) → accepted? a ≡ true → layersIn a form s C.Render w h src ws ≡ bytesOf w h count (layersOf w h (listIn form s) count src)
+  pub render-bytes : (a : Answer) (src ws scr : List ℕ) → accepted? a ≡ true → layersIn a (givingText form s C.Render w h src ws scr) ≡ bytesOf w h count (layersOf w h (listIn form s) count src)
   unfolding drawnBytes
-  render-bytes a src ws t = rw (t, all-counted)
+  render-bytes a src ws scr t = rw (t, all-counted)
 
   -- an accepted call has a step
-  pub answer-some : (call : Call) (src ws scr : List ℕ) → accepted? (answerIn form s call w h src ws scr) ≡ true → 0 < count
+  pub answer-some : (call : Call) (src ws scr : List ℕ) → accepted? (answerIn (givingText form s call w h src ws scr)) ≡ true → 0 < count
   unfolding answerOf
   answer-some call src ws scr e =
       omega (arith, all-counted, accepted-sizes w h (taken (sheetIn form s w h) (listIn form s)) (length src) (length ws) (length scr) (else-accepted _ _ e .0) .some)
 
   -- a text without steps, refused or not, is drawn by no call
-  pub unread-refused : (call : Call) (src ws scr : List ℕ) → count ≡ 0 → accepted? (answerIn form s call w h src ws scr) ≡ false
-  unread-refused call src ws scr z = go (accepted? (answerIn form s call w h src ws scr)) refl
+  pub unread-refused : (call : Call) (src ws scr : List ℕ) → count ≡ 0 → accepted? (answerIn (givingText form s call w h src ws scr)) ≡ false
+  unread-refused call src ws scr z = go (accepted? (answerIn (givingText form s call w h src ws scr))) refl
     where
-      go : (b : Bool) → accepted? (answerIn form s call w h src ws scr) ≡ b → b ≡ false
+      go : (b : Bool) → accepted? (answerIn (givingText form s call w h src ws scr)) ≡ b → b ≡ false
       go true e = absurd (omega (arith, answer-some call src ws scr e))
       go false e = refl
 

@@ -1,20 +1,19 @@
 -- The promises on a text, from those on the list that was read from it. Assumes nothing.
 use Prim.Native.Nat.{ℕ}
 use mathlib.Core.Path.{_≡_, refl, sym, ap, _∙_, subst}
-use mathlib.Core.Bool.{true}
 use mathlib.Core.List.{List, [], _∷_}
 use Rattle.filter.specs.declared.Call.{Call}
 use Rattle.filter.specs.declared.Sheet.{Sheet}
 use Rattle.filter.specs.declared.Step.{Step}
-use Rattle.filter.specs.Answers.{accepted?}
 use Rattle.text.specs.declared.Form.{Form}
 use Rattle.text.specs.declared.ReadAnswer.{ReadAnswer}
 use Rattle.text.specs.declared.Reading.{Reading}
 use Rattle.lent.proofs.SaysAnd.{AllOf}
 use Rattle.render.specs.declared.Redrawn.{Redrawn}
-use Rattle.render.specs.Promise.{taken, answered, ifAccepted, ifDrawn, worked, zeros, RedrawsFor, AllValid}
+use Rattle.layers.specs.Given.{giving}
+use Rattle.render.specs.Promise.{answered, ifAccepted, ifDrawn, worked, zeros, RedrawsFor, ValidFor}
 use Rattle.lines.specs.declared.Drawn.{Drawn}
-use Rattle.lines.specs.Lines.{readingIn, listIn, sheetIn, answerIn, workedIn, layersIn, RedrawsIn, ValidIn}
+use Rattle.lines.specs.Lines.{readingIn, listIn, sheetIn, GivenText, givingText, answerIn, workedIn, layersIn, RedrawsIn, ValidIn}
 
 -- what is told from a reading and an answer
 abbrev pub both : Reading → Redrawn → Drawn
@@ -25,15 +24,18 @@ abbrev pub sheetOf : Reading → ℕ → ℕ → Sheet
 sheetOf r w h = record { width = w; height = h; count = r .count }
 
 module _ (form : Form) (s : List ℕ) (call : Call) (w h : ℕ) (src ws scr : List ℕ) (d z : List ℕ) where
+  abbrev g : GivenText
+  g = givingText form s call w h src ws scr
+
   -- all that is promised but the first
   abbrev pub Promises : Drawn → List (Type 0)
   Promises t =
-      (t .answer ≡ answerIn form s call w h src ws scr)
-      ∷ (t .count ≡ workedIn (t .answer) form s call w h)
-      ∷ (d ≡ layersIn (t .answer) form s call w h src ws)
+      (t .answer ≡ answerIn g)
+      ∷ (t .count ≡ workedIn (t .answer) g)
+      ∷ (d ≡ layersIn (t .answer) g)
       ∷ (z ≡ ifAccepted (t .answer) (zeros scr) scr)
-      ∷ (accepted? (t .answer) ≡ true → RedrawsIn form s call w h src ws d)
-      ∷ (accepted? (t .answer) ≡ true → ValidIn form s w h d)
+      ∷ RedrawsIn (t .answer) g d
+      ∷ ValidIn (t .answer) g d
       ∷ []
 
   abbrev pub Promised : Drawn → Type 0
@@ -42,12 +44,12 @@ module _ (form : Form) (s : List ℕ) (call : Call) (w h : ℕ) (src ws scr : Li
   -- what `draw` says of a sheet and a list
   abbrev pub Drew : Redrawn → Sheet → List Step → Type 0
   Drew y k l =
-      (y .answer ≡ answered call k l src ws scr)
+      (y .answer ≡ answered (giving call k l src ws scr))
       × (y .count ≡ worked (y .answer) call k l)
-      × (d ≡ ifDrawn (y .answer) call k l src ws)
+      × (d ≡ ifDrawn (y .answer) (giving call k l src ws scr))
       × (z ≡ ifAccepted (y .answer) (zeros scr) scr)
-      × (accepted? (y .answer) ≡ true → RedrawsFor call k l src ws d)
-      × (accepted? (y .answer) ≡ true → AllValid (k .width) (k .height) (taken k l) d)
+      × RedrawsFor (y .answer) (giving call k l src ws scr) d
+      × ValidFor (y .answer) (giving call k l src ws scr) d
 
   pub promised : (r : Reading) (y : Redrawn) (k : Sheet) (l : List Step) (t : Drawn) → r ≡ readingIn form s → l ≡ listIn form s → k ≡ sheetOf r w h → Drew y k l → t ≡ both r y → Promised t
   promised r y k l t er el ek D et =

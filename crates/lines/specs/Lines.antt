@@ -3,6 +3,7 @@
 use Prim.Native.Nat.{ℕ}
 use mathlib.Core.List.{List, _++_}
 use lib.ListN.{take, drop, replicate}
+use denote.Ref.{now}
 use Rattle.filter.specs.declared.Answer.{Answer}
 use Rattle.filter.specs.declared.Call.{Call}
 use Rattle.filter.specs.declared.Sheet.{Sheet}
@@ -12,7 +13,8 @@ use Rattle.filter.specs.Steps.{blankStep}
 use Rattle.text.specs.declared.Form.{Form}
 use Rattle.text.specs.declared.Reading as R
 use Rattle.text.specs.Reading.{readingOf, stepsIn}
-use Rattle.render.specs.Promise.{taken, answered, worked, ifDrawn, RedrawsFor, AllValid}
+use Rattle.layers.specs.Given.{Given, giving, Slice}
+use Rattle.render.specs.Promise.{answered, worked, ifDrawn, RedrawsFor, ValidFor}
 
 -- what the reader says of a text, for a list as long as a sheet may be
 abbrev pub readingIn : Form → List ℕ → R.Reading
@@ -26,18 +28,43 @@ listIn form s = take (readingIn form s .count) (stepsIn form s) ++ drop (reading
 abbrev pub sheetIn : Form → List ℕ → ℕ → ℕ → Sheet
 sheetIn form s w h = record { width = w; height = h; count = readingIn form s .count }
 
--- what is promised of that sheet and that list
-abbrev pub answerIn : Form → List ℕ → Call → ℕ → ℕ → List ℕ → List ℕ → List ℕ → Answer
-answerIn form s call w h src ws scr = answered call (sheetIn form s w h) (listIn form s) src ws scr
+-- what a call on a text is given: the text in place of a sheet and a list
+pub record GivenText : Type 0 where
+  pub form : Form
+  pub text : List ℕ
+  pub call : Call
+  pub width : ℕ
+  pub height : ℕ
+  pub source : List ℕ
+  pub workspace : List ℕ
+  pub scratch : List ℕ
 
-abbrev pub workedIn : Answer → Form → List ℕ → Call → ℕ → ℕ → ℕ
-workedIn a form s call w h = worked a call (sheetIn form s w h) (listIn form s)
+-- by its parts
+abbrev pub givingText : Form → List ℕ → Call → ℕ → ℕ → List ℕ → List ℕ → List ℕ → GivenText
+givingText form s call w h src ws scr =
+    record { form = form; text = s; call = call; width = w; height = h; source = src; workspace = ws; scratch = scr }
 
-abbrev pub layersIn : Answer → Form → List ℕ → Call → ℕ → ℕ → List ℕ → List ℕ → List ℕ
-layersIn a form s call w h src ws = ifDrawn a call (sheetIn form s w h) (listIn form s) src ws
+-- by the names in an `ensures`
+abbrev pub givenText : Form → Slice ℕ → Call → ℕ → ℕ → Slice ℕ → Slice ℕ → Slice ℕ → GivenText
+givenText form text call w h source workspace scratch =
+    givingText form (now (text .entry)) call w h (now (source .entry)) (now (workspace .entry)) (now (scratch .entry))
 
-abbrev pub RedrawsIn : Form → List ℕ → Call → ℕ → ℕ → List ℕ → List ℕ → List ℕ → Type 0
-RedrawsIn form s call w h src before after = RedrawsFor call (sheetIn form s w h) (listIn form s) src before after
+-- its sheet and its list
+abbrev pub givenBy : GivenText → Given
+givenBy t = giving (t .call) (sheetIn (t .form) (t .text) (t .width) (t .height)) (listIn (t .form) (t .text)) (t .source) (t .workspace) (t .scratch)
 
-abbrev pub ValidIn : Form → List ℕ → ℕ → ℕ → List ℕ → Type 0
-ValidIn form s w h d = AllValid w h (taken (sheetIn form s w h) (listIn form s)) d
+-- what is promised of them
+abbrev pub answerIn : GivenText → Answer
+answerIn t = answered (givenBy t)
+
+abbrev pub workedIn : Answer → GivenText → ℕ
+workedIn a t = worked a (t .call) (sheetIn (t .form) (t .text) (t .width) (t .height)) (listIn (t .form) (t .text))
+
+abbrev pub layersIn : Answer → GivenText → List ℕ
+layersIn a t = ifDrawn a (givenBy t)
+
+abbrev pub RedrawsIn : Answer → GivenText → List ℕ → Type 0
+RedrawsIn a t after = RedrawsFor a (givenBy t) after
+
+abbrev pub ValidIn : Answer → GivenText → List ℕ → Type 0
+ValidIn a t after = ValidFor a (givenBy t) after

@@ -10,10 +10,8 @@ use text::ReadAnswer;
 use text::Reading;
 use text::reader::read;
 ghost use mathlib.Core.Path.{_≡_};
-ghost use mathlib.Core.Bool.{true};
-ghost use Rattle.filter.specs.Answers.{accepted?};
 ghost use Rattle.render.specs.Promise.{ifAccepted, zeros};
-ghost use Rattle.lines.specs.Lines.{readingIn, answerIn, workedIn, layersIn, RedrawsIn, ValidIn};
+ghost use Rattle.lines.specs.Lines.{readingIn, givenText, answerIn, workedIn, layersIn, RedrawsIn, ValidIn};
 
 // What the reader says, the sheet's answer, and how many pixels a redraw worked. A refused text is a sheet of no steps, which is refused.
 pub struct Drawn {
@@ -56,12 +54,12 @@ pub fn draw_lines(
     scratch: &mut [u8],
 ) -> Drawn
     ensures reads { λ d. ⌜ d .reading ≡ readingIn form (now (text .entry)) .answer ⌝ }
-    ensures answers { λ d. ⌜ d .answer ≡ answerIn form (now (text .entry)) call width height (now (source .entry)) (now (workspace .entry)) (now (scratch .entry)) ⌝ }
-    ensures counts { λ d. ⌜ d .count ≡ workedIn (d .answer) form (now (text .entry)) call width height ⌝ }
-    ensures layers { λ d. ⌜ now (workspace .exit) ≡ layersIn (d .answer) form (now (text .entry)) call width height (now (source .entry)) (now (workspace .entry)) ⌝ }
+    ensures answers { λ d. ⌜ d .answer ≡ answerIn (givenText form text call width height source workspace scratch) ⌝ }
+    ensures counts { λ d. ⌜ d .count ≡ workedIn (d .answer) (givenText form text call width height source workspace scratch) ⌝ }
+    ensures layers { λ d. ⌜ now (workspace .exit) ≡ layersIn (d .answer) (givenText form text call width height source workspace scratch) ⌝ }
     ensures cleared { λ d. ⌜ now (scratch .exit) ≡ ifAccepted (d .answer) (zeros (now (scratch .entry))) (now (scratch .entry)) ⌝ }
-    ensures redraws { λ d. ⌜ (accepted? (d .answer) ≡ true → RedrawsIn form (now (text .entry)) call width height (now (source .entry)) (now (workspace .entry)) (now (workspace .exit))) ⌝ }
-    ensures valid { λ d. ⌜ (accepted? (d .answer) ≡ true → ValidIn form (now (text .entry)) width height (now (workspace .exit))) ⌝ }
+    ensures redraws { λ d. ⌜ RedrawsIn (d .answer) (givenText form text call width height source workspace scratch) (now (workspace .exit)) ⌝ }
+    ensures valid { λ d. ⌜ ValidIn (d .answer) (givenText form text call width height source workspace scratch) (now (workspace .exit)) ⌝ }
 {
     let mut list = blanks();
     let reading = read(form, text, &mut list);

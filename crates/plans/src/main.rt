@@ -8,13 +8,13 @@ ghost use Rattle.filter.specs.Accepted.{Within};
 ghost use Rattle.filter.specs.Bytes.{size};
 ghost use Rattle.filter.specs.Checks.{sizesAnswer};
 ghost use Rattle.filter.specs.Limits.{longestSide, mostPixels, mostSteps};
-ghost use Rattle.plan.specs.Damage.{AllWithin};
+ghost use Rattle.damage.specs.Damage.{AllWithin};
+use damage::SoFar;
 use filter::Answer;
 use filter::Rect;
 use filter::Region;
 use filter::Sheet;
 use filter::Step;
-use plan::SoFar;
 use tables::field::hex;
 use text::Form;
 use text::ReadAnswer;
@@ -76,12 +76,12 @@ fn side(head: &[u8], i: usize) -> usize
 }
 
 fn print_answer(answer: Answer) {
-    print_number(plan::answers::number(answer));
-    print_number(plan::answers::place(answer) as u64);
+    print_number(checks::answers::number(answer));
+    print_number(checks::answers::place(answer) as u64);
 }
 
 fn print_rect(r: Rect) {
-    if plan::rectangle::is_filled(r) {
+    if damage::rectangle::is_filled(r) {
         print_number(r.left as u64);
         print_number(r.right as u64);
         print_number(r.top as u64);
@@ -107,7 +107,7 @@ fn check_canvas(w: usize, h: usize, count: usize) -> Answer
     ensures { λ r. ⌜ r ≡ sizesAnswer w h count (size w h) (count * size w h) (2 * size w h) ⌝ }
 {
     let size = 4 * (w * h);
-    plan::sizes::check_sizes(w, h, count, size, count * size, 2 * size)
+    checks::sizes::check_sizes(w, h, count, size, count * size, 2 * size)
 }
 
 // The rectangles with that of step n, where the step is not refused.
@@ -116,12 +116,15 @@ fn next_damages(w: usize, h: usize, n: usize, step: Step, named: Rect, damages: 
     requires { ⌜ (length (damages .rects) ≡ mostSteps) × AllWithin longestSide longestSide named (damages .rects) ⌝ }
     ensures { λ o. ⌜ (o .count ≤ (n + 1) * mostPixels) × (length (o .rects) ≡ mostSteps) × AllWithin longestSide longestSide named (o .rects) ⌝ }
 {
-    if !plan::answers::is_accepted(plan::checks::check_step(w, h, n, step)) {
+    if !checks::answers::is_accepted(checks::checks::check_step(w, h, n, step)) {
         return damages;
     }
     let rects = damages.rects;
-    let rect = plan::damage::step_damage(w, h, step, named, rects);
-    plan::progress::with_rect(damages, n, rect)
+    let made = damage::resolve::resolve(step);
+    let shape = made.shape;
+    let region = damage::rectangle::bounds(step.region);
+    let rect = damage::damage::damage_of(w, h, shape, region, named, rects);
+    damage::progress::with_rect(damages, n, rect)
 }
 
 // The steps of the lines, one after another: their checks, then their rectangles.
@@ -129,7 +132,7 @@ fn print_steps(w: usize, h: usize, named: Rect, lines: &[u8], count: usize)
     requires { ⌜ (w ≤ longestSide) × (h ≤ longestSide) × (count ≤ mostSteps) × Within longestSide longestSide named ⌝ }
 {
     let mut answer = Answer::Done;
-    let mut damages = plan::progress::none_so_far();
+    let mut damages = damage::progress::none_so_far();
     let mut at: usize = 0;
     for n in 0..count {
         let e = text_field::lines::find(lines, at, 10);
@@ -138,12 +141,12 @@ fn print_steps(w: usize, h: usize, named: Rect, lines: &[u8], count: usize)
         }
         let s = text_step::step_lines::step_of(&lines[at..e]);
         let step = s.step;
-        answer = plan::checks::check_next(answer, w, h, n, step);
+        answer = checks::checks::check_next(answer, w, h, n, step);
         damages = next_damages(w, h, n, step, named, damages);
         at = text::reader::line_after(lines, at);
     }
     print_answer(answer);
-    if plan::answers::is_accepted(answer) {
+    if checks::answers::is_accepted(answer) {
         print_damages(count, damages);
     }
 }
@@ -155,10 +158,10 @@ fn print_plan(w: usize, h: usize, named: Region, lines: &[u8], count: usize)
         return;
     }
     let a = check_canvas(w, h, count);
-    let b = plan::sizes::check_rectangle(w, h, named);
-    let early = plan::answers::first(a, b);
-    if plan::answers::is_accepted(early) {
-        print_steps(w, h, plan::rectangle::bounds(named), lines, count);
+    let b = checks::sizes::check_rectangle(w, h, named);
+    let early = checks::answers::first(a, b);
+    if checks::answers::is_accepted(early) {
+        print_steps(w, h, damage::rectangle::bounds(named), lines, count);
     } else {
         print_answer(early);
     }

@@ -1,9 +1,11 @@
 -- What the code's own steps work out. No promise to a caller cites these. Assumes nothing.
 use Prim.Native.Nat.{ℕ, _+_, _-_, _*_, _/_}
 use mathlib.Core.Bool.{cond}
+use mathlib.Core.List.{List}
 use lib.Dec.{ltb}
+use lib.ListN.{getD}
 use Rattle.pixel.specs.declared.Pixel.{Pixel}
-use Rattle.pixel.specs.Alpha.{pixel}
+use Rattle.pixel.specs.Alpha.{pixel, premultiplied}
 use Rattle.raster_alpha.specs.Tables.{ceiling}
 
 -- the entries of the table of `unpremultiply`, one after another
@@ -17,3 +19,7 @@ weight i = cond (ltb i 256) (13926 * i) (cond (ltb i 512) (46884 * (i - 256)) (4
 -- what the bytes of a pixel with the alpha a are multiplied by
 abbrev pub factors : ℕ → Pixel
 factors a = pixel a a a 255
+
+-- byte i of d by that of f
+abbrev pub scaledBy : List ℕ → List ℕ → ℕ → ℕ
+scaledBy d f i = premultiplied (getD d i 0) (getD f i 0)

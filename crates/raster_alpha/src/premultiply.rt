@@ -6,10 +6,9 @@ ghost use Prim.Native.Nat.{_+_, _*_, _≤_};
 ghost use lib.ListN.{length, getD};
 ghost use Rattle.window.specs.Store.{Filled};
 ghost use Rattle.window.specs.Limits.{longestSide};
-ghost use Rattle.pixel.specs.Alpha.{premultiplied};
 ghost use Rattle.pixel.specs.Bytes.{pixelAt, Painted};
 ghost use Rattle.raster_alpha.specs.Cover.{covered};
-ghost use Rattle.raster_alpha.specs.Code.{factors};
+ghost use Rattle.raster_alpha.specs.Code.{factors, scaledBy};
 
 // What each byte of a pixel is multiplied by: its alpha, and 255 for the alpha itself. The sum of two products keeps the
 // four bytes one word: with a constant in the highest the compiler would store them one by one.
@@ -27,7 +26,7 @@ fn factor_row(d: &[u8], f: &mut [u8], n: usize)
 // Each byte by its factor.
 fn scale_row(f: &[u8], d: &mut [u8])
     requires { ⌜ length (now d) ≤ length (now f) ⌝ }
-    ensures { λ _. ⌜ Filled (λ i. premultiplied (getD (now (d .entry)) i 0) (getD (now (f .entry)) i 0)) 0 (length (now (d .entry))) (now (d .entry)) (now (d .exit)) ⌝ }
+    ensures { λ _. ⌜ Filled (scaledBy (now (d .entry)) (now (f .entry))) 0 (length (now (d .entry))) (now (d .entry)) (now (d .exit)) ⌝ }
 {
     for i in 0..d.len() {
         d[i] = premultiply(d[i], f[i]);

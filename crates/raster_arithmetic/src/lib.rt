@@ -8,7 +8,7 @@ ghost use Rattle.window.specs.Store.{Filled};
 ghost use Rattle.pixel.specs.Arithmetic.{channelOf, combined};
 ghost use Rattle.pixel.specs.Bytes.{pixelAt, Painted};
 ghost use Rattle.pixel.specs.Coefficient.{AllowedArithmetic};
-ghost use Rattle.raster_arithmetic.specs.Tables.{Combines};
+ghost use Rattle.raster_arithmetic.specs.Tables.{Combines, combinedAt};
 ghost use Rattle.raster_arithmetic.specs.Code.{level};
 
 // A coefficient, above or below zero, times a byte.
@@ -117,7 +117,7 @@ fn combine(k: Arithmetic, table: &[u8], a: &[u8], b: &[u8], dst: &mut [u8], i: u
 // A row of n pixels. Only the contract reads k.
 pub fn combine_row(k: Arithmetic, table: &[u8], a: &[u8], b: &[u8], dst: &mut [u8], n: usize)
     requires { ⌜ Combines k (now table) × (length (now a) ≡ 4 * n) × (length (now b) ≡ 4 * n) × (length (now dst) ≡ 4 * n) ⌝ }
-    ensures { λ _. ⌜ Painted (λ x. combined k (pixelAt (now (a .entry)) (4 * x)) (pixelAt (now (b .entry)) (4 * x))) 0 0 n (now (dst .entry)) (now (dst .exit)) ⌝ }
+    ensures { λ _. ⌜ Painted (combinedAt k (now (a .entry)) (now (b .entry))) 0 0 n (now (dst .entry)) (now (dst .exit)) ⌝ }
 {
     for x in 0..n {
         combine(k, table, a, b, dst, 4 * x);

@@ -21,6 +21,10 @@ weighted u f v g = u * f + v * g
 abbrev pub blended : List ℕ → (ℕ → ℕ) → List ℕ → (ℕ → ℕ) → ℕ → ℕ
 blended a f b g i = (weighted (getD a i 0) (f i) (getD b i 0) (g i) + 127) / 255
 
+-- the same by two rows of factors
+abbrev pub blendedBy : List ℕ → List ℕ → List ℕ → List ℕ → ℕ → ℕ
+blendedBy a f b g = blended a (row f) b (row g)
+
 -- the factors are bytes, and the first n weighted sums are at most 255·255
 pub record Fitting (a : List ℕ) (f : ℕ → ℕ) (b : List ℕ) (g : ℕ → ℕ) (n : ℕ) : Type 0 where
   pub small-f : (i : ℕ) → i < n → f i < 256

@@ -7,11 +7,11 @@ ghost use Prim.Native.Nat.{_+_, _*_, _/_, _%_, _≤_, _<_};
 ghost use lib.ListN.{length};
 ghost use Rattle.window.specs.Store.{Filled, WorkBuffer};
 ghost use Rattle.pixel.specs.declared.Operator.the-variants as op;
-ghost use Rattle.pixel.specs.Bytes.{pixelAt, Painted, ValidRow};
-ghost use Rattle.pixel.specs.Composite.{composited};
+ghost use Rattle.pixel.specs.Bytes.{Painted, ValidRow};
+ghost use Rattle.raster_composite.specs.Row.{compositedAt};
 ghost use Rattle.raster_composite.specs.Word.{Paired};
 ghost use Rattle.raster_composite.specs.Factors.{Factors};
-ghost use Rattle.raster_composite.specs.Work.{weighted, blended, row, Fitting};
+ghost use Rattle.raster_composite.specs.Work.{weighted, blended, blendedBy, row, Fitting};
 use pixel::Operator;
 
 // The product of two bytes.
@@ -80,7 +80,7 @@ fn scale(a: &[u8], f: &[u8], dst: &mut [u8], n: usize)
 fn mix(a: &[u8], f: &[u8], b: &[u8], g: &[u8], dst: &mut [u8], n: usize)
     requires { ⌜ (length (now a) ≡ 4 * n) × (length (now f) ≡ 4 * n) × (length (now b) ≡ 4 * n) × (length (now g) ≡ 4 * n) × (length (now dst) ≡ 4 * n) ⌝ }
     requires { ⌜ Fitting (now a) (row (now f)) (now b) (row (now g)) (4 * n) ⌝ }
-    ensures { λ _. ⌜ Filled (blended (now (a .entry)) (row (now (f .entry))) (now (b .entry)) (row (now (g .entry)))) 0 (4 * n) (now (dst .entry)) (now (dst .exit)) ⌝ }
+    ensures { λ _. ⌜ Filled (blendedBy (now (a .entry)) (now (f .entry)) (now (b .entry)) (now (g .entry))) 0 (4 * n) (now (dst .entry)) (now (dst .exit)) ⌝ }
 {
     let m = 2 * n;
     for j in 0..m {
@@ -130,7 +130,7 @@ fn lay_onto(a: &[u8], g: &[u8], dst: &mut [u8], n: usize)
 pub fn blend_row(op: Operator, a: &[u8], b: &[u8], f: &[u8], g: &[u8], dst: &mut [u8], n: usize)
     requires { ⌜ (length (now a) ≡ 4 * n) × (length (now b) ≡ 4 * n) × (length (now f) ≡ 4 * n) × (length (now g) ≡ 4 * n) × (length (now dst) ≡ 4 * n) ⌝ }
     requires { ⌜ ValidRow (now a) n × ValidRow (now b) n × Factors op (now a) (now b) (now f) (now g) n ⌝ }
-    ensures { λ _. ⌜ Painted (λ x. composited op (pixelAt (now (a .entry)) (4 * x)) (pixelAt (now (b .entry)) (4 * x))) 0 0 n (now (dst .entry)) (now (dst .exit)) ⌝ }
+    ensures { λ _. ⌜ Painted (compositedAt op (now (a .entry)) (now (b .entry))) 0 0 n (now (dst .entry)) (now (dst .exit)) ⌝ }
 {
     match op {
         Operator::Over => {
@@ -168,7 +168,7 @@ pub fn composite_row(
 )
     requires { ⌜ (length (now a) ≡ 4 * n) × (length (now b) ≡ 4 * n) × (length (now f) ≡ 4 * n) × (length (now g) ≡ 4 * n) × (length (now dst) ≡ 4 * n) ⌝ }
     requires { ⌜ ValidRow (now a) n × ValidRow (now b) n ⌝ }
-    ensures { λ _. ⌜ Painted (λ x. composited op (pixelAt (now (a .entry)) (4 * x)) (pixelAt (now (b .entry)) (4 * x))) 0 0 n (now (dst .entry)) (now (dst .exit)) ⌝ }
+    ensures { λ _. ⌜ Painted (compositedAt op (now (a .entry)) (now (b .entry))) 0 0 n (now (dst .entry)) (now (dst .exit)) ⌝ }
     ensures { λ _. ⌜ WorkBuffer (now (f .entry)) (now (f .exit)) × WorkBuffer (now (g .entry)) (now (g .exit)) ⌝ }
 {
     factor::factor_rows(op, a, b, f, g, n);
@@ -179,7 +179,7 @@ pub fn composite_row(
 pub fn over_onto(a: &[u8], g: &mut [u8], dst: &mut [u8], n: usize)
     requires { ⌜ (length (now a) ≡ 4 * n) × (length (now g) ≡ 4 * n) × (length (now dst) ≡ 4 * n) ⌝ }
     requires { ⌜ ValidRow (now a) n × ValidRow (now dst) n ⌝ }
-    ensures { λ _. ⌜ Painted (λ x. composited op.Over (pixelAt (now (a .entry)) (4 * x)) (pixelAt (now (dst .entry)) (4 * x))) 0 0 n (now (dst .entry)) (now (dst .exit)) ⌝ }
+    ensures { λ _. ⌜ Painted (compositedAt op.Over (now (a .entry)) (now (dst .entry))) 0 0 n (now (dst .entry)) (now (dst .exit)) ⌝ }
     ensures { λ _. ⌜ WorkBuffer (now (g .entry)) (now (g .exit)) ⌝ }
 {
     factor::opposites(a, g, n);

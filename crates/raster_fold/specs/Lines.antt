@@ -1,9 +1,11 @@
 -- Lines put together with those before and after them. Only the code needs these definitions: no promise to a caller cites them. Assumes nothing.
 use mathlib.Core.List.{List}
-use Prim.Native.Nat.{ℕ, _+_, _-_}
+use Prim.Native.Nat.{ℕ, _+_, _-_, _*_}
 use mathlib.Core.Bool.{cond}
 use lib.Dec.{ltb}
 use Rattle.window.specs.Store.{byteAt}
+use Rattle.raster_fold.specs.declared.Extreme.{Extreme}
+use Rattle.raster_fold.specs.Operation.{operation}
 
 -- the line s before v, or v itself where there is none
 unfoldable pub earlier : ℕ → ℕ → ℕ
@@ -24,3 +26,7 @@ around op d from n count s t v i = op (paired op d from n count s t v i) (byteAt
 -- such pairs put together, by s2 and t2
 abbrev pub pairedTwice : (ℕ → ℕ → ℕ) → List ℕ → ℕ → ℕ → ℕ → ℕ → ℕ → ℕ → ℕ → ℕ → ℕ → ℕ
 pairedTwice op d from n count s t s2 t2 v i = op (paired op d from n count s t (earlier s2 v) i) (paired op d from n count s t (later t2 count v) i)
+
+-- the same for the index j = to + v·n + i
+abbrev pub twiceAt : Extreme → List ℕ → ℕ → ℕ → ℕ → ℕ → ℕ → ℕ → ℕ → ℕ → ℕ → ℕ → ℕ
+twiceAt op d from to n count s t s2 t2 v j = pairedTwice (operation op) d from n count s t s2 t2 v (j - (to + v * n))

@@ -1,11 +1,11 @@
 // Folds of whole lines.
 ghost use mathlib.Core.Path.{_≡_};
-ghost use Prim.Native.Nat.{_+_, _-_, _*_, _≤_, _<_, _^_};
+ghost use Prim.Native.Nat.{_+_, _*_, _≤_, _<_, _^_};
 ghost use lib.ListN.{length};
 ghost use Rattle.window.specs.Store.{Filled, Lined};
 ghost use Rattle.raster_fold.specs.Operation.{operation};
 ghost use Rattle.window.specs.Ranges.{Apart};
-ghost use Rattle.raster_fold.specs.Lines.{earlier, later, paired, around, pairedTwice};
+ghost use Rattle.raster_fold.specs.Lines.{earlier, later, paired, around, pairedTwice, twiceAt};
 use super::Extreme;
 use super::fold::fold_four;
 use super::fold::fold_shifted;
@@ -95,7 +95,7 @@ pub fn fold_line_twice(
     t2: usize,
 )
     requires { ⌜ (from + count * n ≤ length (now buf)) × (to + count * n ≤ length (now buf)) × Apart from (count * n) to (count * n) × (v < count) ⌝ }
-    ensures { λ _. ⌜ Filled (λ j. pairedTwice (operation op) (now (buf .entry)) from n count s t s2 t2 v (j - (to + v * n))) (to + v * n) (to + v * n + n) (now (buf .entry)) (now (buf .exit)) ⌝ }
+    ensures { λ _. ⌜ Filled (twiceAt op (now (buf .entry)) from to n count s t s2 t2 v) (to + v * n) (to + v * n + n) (now (buf .entry)) (now (buf .exit)) ⌝ }
 {
     let y = earlier_line(s2, v);
     let z = later_line(t2, count, v);

@@ -122,7 +122,8 @@ pub fn grow_windows(
     back: usize,
     ahead: usize,
 ) -> usize
-    requires { ⌜ (a + count * n ≤ length (now buf)) × (b + count * n ≤ length (now buf)) × Apart a (count * n) b (count * n) × (back < count) × (ahead < count) × (back ≤ 64) × (ahead ≤ 64) ⌝ }
+    requires { ⌜ (a + count * n ≤ length (now buf)) × (b + count * n ≤ length (now buf)) × Apart a (count * n) b (count * n) ⌝ }
+    requires { ⌜ (back < count) × (ahead < count) × (back ≤ 64) × (ahead ≤ 64) ⌝ }
     ensures { λ r. ⌜ PingPong (windows op (now (buf .entry)) a n count back ahead) a b n count r (now (buf .entry)) (now (buf .exit)) ⌝ }
 {
     let mut here = a;

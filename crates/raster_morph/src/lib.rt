@@ -2,12 +2,8 @@
 mod edge;
 mod growth;
 
-ghost use Prim.Native.Nat.{_+_, _*_, _≤_, _<_};
-ghost use lib.ListN.{length};
-ghost use Rattle.window.specs.Window.{column};
-ghost use Rattle.raster_morph.specs.Extremes.{extreme};
-ghost use Rattle.window.specs.Ranges.{Apart};
-ghost use Rattle.raster_morph.specs.Ranges.{PingPong};
+ghost use Rattle.raster_morph.specs.Extremes.{extremeAt};
+ghost use Rattle.raster_morph.specs.Ranges.{Windowed, PingPong};
 use raster_fold::Extreme;
 
 // Of each of the count lines of n bytes at a, the extreme over the lines from `back` before it to `ahead` after it, byte by byte, where a line
@@ -22,8 +18,8 @@ pub fn extreme_lines(
     back: usize,
     ahead: usize,
 ) -> usize
-    requires { ⌜ (a + count * n ≤ length (now buf)) × (b + count * n ≤ length (now buf)) × Apart a (count * n) b (count * n) × (0 < count) × (back ≤ 64) × (ahead ≤ 64) ⌝ }
-    ensures { λ r. ⌜ PingPong (λ v i. extreme op back ahead (column (now (buf .entry)) a n count i) v) a b n count r (now (buf .entry)) (now (buf .exit)) ⌝ }
+    requires { ⌜ Windowed a b n count back ahead (now buf) ⌝ }
+    ensures { λ r. ⌜ PingPong (extremeAt op back ahead (now (buf .entry)) a n count) a b n count r (now (buf .entry)) (now (buf .exit)) ⌝ }
 {
     let last = count - 1;
     let here = growth::grow_windows(

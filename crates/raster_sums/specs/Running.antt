@@ -1,7 +1,7 @@
 -- The running sums of a box pass, which only the code needs: no promise to a caller cites them. Assumes nothing.
 use mathlib.Core.Path.{_≡_}
 use mathlib.Core.List.{List}
-use Prim.Native.Nat.{ℕ, _+_, _/_, _<_}
+use Prim.Native.Nat.{ℕ, _+_, _-_, _*_, _/_, _≤_, _<_}
 use lib.ListN.{getD}
 use Rattle.window.specs.Window.{fold, behind, column}
 use Rattle.raster_sums.specs.declared.running.Pass.{Pass}
@@ -21,3 +21,16 @@ columns p d = column d (p .from) (p .n) (p .count)
 -- s holds the sums of each column before line y
 abbrev pub Sums : Pass → List ℕ → ℕ → List ℕ → Type 0
 Sums p d y s = (i : ℕ) → i < p .n → getD s i 0 ≡ rounded (p .back) (p .ahead) (columns p d i) y
+
+-- the sums in s without the line behind the window at y
+abbrev pub without : Pass → List ℕ → ℕ → List ℕ → ℕ → ℕ
+without p d y s i = getD s i 0 - behind (p .back + 1) (columns p d i) y
+
+-- sum i of s with the byte at p + i of d, without the byte at q + i
+abbrev pub slid : List ℕ → List ℕ → ℕ → ℕ → ℕ → ℕ
+slid s d p q i = getD s i 0 + getD d (p + i) 0 - getD d (q + i) 0
+
+-- that of n sums can be worked in 16 bits and divided by size
+abbrev pub Slides : List ℕ → List ℕ → ℕ → ℕ → ℕ → ℕ → Type 0
+Slides s d p q n size = (i : ℕ) → i < n
+    → (getD s i 0 < 65280) × (getD d (q + i) 0 ≤ getD s i 0 + getD d (p + i) 0) × (slid s d p q i ≤ 255 * size + size / 2)

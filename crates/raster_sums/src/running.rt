@@ -1,8 +1,8 @@
-ghost use Prim.Native.Nat.{ℕ, _+_, _-_, _*_, _≤_, _<_};
+ghost use Prim.Native.Nat.{ℕ, _+_, _*_, _≤_, _<_};
 ghost use lib.ListN.{length, getD};
 ghost use Rattle.window.specs.Store.{Filled};
 ghost use Rattle.window.specs.Window.{behind};
-ghost use Rattle.raster_sums.specs.Running.{columns, Sums};
+ghost use Rattle.raster_sums.specs.Running.{columns, Sums, without};
 use crate::sums::gain;
 use crate::sums::lose;
 
@@ -34,7 +34,7 @@ pub fn enter(buf: &[u8], p: Pass, v: usize, sums: &mut [u16])
 pub fn leave(buf: &[u8], p: Pass, y: usize, sums: &mut [u16])
     requires { ⌜ (p .from + p .count * p .n ≤ length (now buf)) × (p .n ≤ length (now sums)) × (y < p .count) ⌝ }
     requires { ⌜ ((i : ℕ) → i < p .n → behind (p .back + 1) (columns p (now buf) i) y ≤ getD (now sums) i 0) ⌝ }
-    ensures { λ _. ⌜ Filled (λ i. getD (now (sums .entry)) i 0 - behind (p .back + 1) (columns p (now (buf .entry)) i) y) 0 (p .n) (now (sums .entry)) (now (sums .exit)) ⌝ }
+    ensures { λ _. ⌜ Filled (without p (now (buf .entry)) y (now (sums .entry))) 0 (p .n) (now (sums .entry)) (now (sums .exit)) ⌝ }
 {
     if p.back < y {
         let o = p.from + (y - p.back - 1) * p.n;

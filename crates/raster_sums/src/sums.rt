@@ -3,6 +3,7 @@ ghost use Prim.Native.Nat.{ℕ, _+_, _-_, _*_, _/_, _≤_, _<_};
 ghost use lib.ListN.{length, getD};
 ghost use Rattle.window.specs.Store.{Filled};
 ghost use Rattle.raster_sums.specs.Reciprocal.{Divides};
+ghost use Rattle.raster_sums.specs.Running.{slid, Slides};
 ghost use Rattle.window.specs.Ranges.{Apart};
 use crate::reciprocal::mean;
 
@@ -59,9 +60,9 @@ pub fn step(
 )
     requires { ⌜ (p + n ≤ length (now buf)) × (q + n ≤ length (now buf)) × (r + n ≤ length (now buf)) × (n ≤ length (now sums)) × Divides mul shift size ⌝ }
     requires { ⌜ Apart p n r n × Apart q n r n ⌝ }
-    requires { ⌜ ((i : ℕ) → i < n → (getD (now sums) i 0 < 65280) × (getD (now buf) (q + i) 0 ≤ getD (now sums) i 0 + getD (now buf) (p + i) 0) × (getD (now sums) i 0 + getD (now buf) (p + i) 0 - getD (now buf) (q + i) 0 ≤ 255 * size + size / 2)) ⌝ }
-    ensures { λ _. ⌜ Filled (λ i. getD (now (sums .entry)) i 0 + getD (now (buf .entry)) (p + i) 0 - getD (now (buf .entry)) (q + i) 0) 0 n (now (sums .entry)) (now (sums .exit)) ⌝ }
-    ensures { λ _. ⌜ Filled (λ j. (getD (now (sums .entry)) (j - r) 0 + getD (now (buf .entry)) (p + (j - r)) 0 - getD (now (buf .entry)) (q + (j - r)) 0) / size) r (r + n) (now (buf .entry)) (now (buf .exit)) ⌝ }
+    requires { ⌜ Slides (now sums) (now buf) p q n size ⌝ }
+    ensures { λ _. ⌜ Filled (slid (now (sums .entry)) (now (buf .entry)) p q) 0 n (now (sums .entry)) (now (sums .exit)) ⌝ }
+    ensures { λ _. ⌜ Filled (λ j. slid (now (sums .entry)) (now (buf .entry)) p q (j - r) / size) r (r + n) (now (buf .entry)) (now (buf .exit)) ⌝ }
 {
     for i in 0..n {
         let t = sums[i] + wide(buf[p + i]) - wide(buf[q + i]);

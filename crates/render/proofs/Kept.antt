@@ -19,10 +19,11 @@ use Rattle.filter.proofs.Demand.{redraw-buffers, redraw-keeps}
 use Rattle.filter.proofs.ValidLayers.{layers-valid, redrawn-layers-valid}
 use Rattle.filter.specs.Answers.{accepted?, numberOf, placeOf}
 use Rattle.lent.proofs.SaysAnd.{AllOf}
+use Rattle.layers.specs.Given.{Given, giving}
 use Rattle.layers.specs.Drawing.{ReadyFor, Drawing, drawnOf, countFor}
 use Rattle.render.specs.declared.Redrawn.{Redrawn}
 use Rattle.render.specs.Code.{usableOf}
-use Rattle.render.specs.Promise.{taken, answered, asNumber, asPlace, ifAccepted, layerBytes, drawnBytes, ifDrawn, worked, zeros, Redraws, RedrawsFor, AllValid}
+use Rattle.render.specs.Promise.{taken, answered, asNumber, asPlace, ifAccepted, layerBytes, drawnBytes, ifDrawn, worked, zeros, Redraws, RedrawsFor, AllValid, ValidFor}
 
 pub if-accepted : (a : Answer) (new old d : List ℕ) → accepted? a ≡ true → d ≡ new → d ≡ ifAccepted a new old
 if-accepted a new old d e f = rw e f
@@ -44,19 +45,19 @@ redraws w h steps n g src before after H = record {
 }
 
 -- all that is promised of a call that ends with r, the workspace d and the scratch buffer z
-abbrev pub Promises : Call → Sheet → List Step → List ℕ → List ℕ → List ℕ → Redrawn → List ℕ → List ℕ → List (Type 0)
-Promises call s steps src ws scr r d z =
-    (numberOf (r .answer) ≡ asNumber call s steps src ws scr)
-    ∷ (placeOf (r .answer) ≡ asPlace call s steps src ws scr)
-    ∷ (r .count ≡ worked (r .answer) call s steps)
-    ∷ (d ≡ ifDrawn (r .answer) call s steps src ws)
-    ∷ (z ≡ ifAccepted (r .answer) (zeros scr) scr)
-    ∷ (accepted? (r .answer) ≡ true → RedrawsFor call s steps src ws d)
-    ∷ (accepted? (r .answer) ≡ true → AllValid (s .width) (s .height) (taken s steps) d)
+abbrev pub Promises : Given → Redrawn → List ℕ → List ℕ → List (Type 0)
+Promises g r d z =
+    (numberOf (r .answer) ≡ asNumber g)
+    ∷ (placeOf (r .answer) ≡ asPlace g)
+    ∷ (r .count ≡ worked (r .answer) (g .call) (g .sheet) (g .steps))
+    ∷ (d ≡ ifDrawn (r .answer) g)
+    ∷ (z ≡ ifAccepted (r .answer) (zeros (g .scratch)) (g .scratch))
+    ∷ RedrawsFor (r .answer) g d
+    ∷ ValidFor (r .answer) g d
     ∷ []
 
-abbrev pub Promised : Call → Sheet → List Step → List ℕ → List ℕ → List ℕ → Redrawn → List ℕ → List ℕ → Type 0
-Promised call s steps src ws scr r d z = AllOf (r .answer ≡ answered call s steps src ws scr) (Promises call s steps src ws scr r d z)
+abbrev pub Promised : Given → Redrawn → List ℕ → List ℕ → Type 0
+Promised g r d z = AllOf (r .answer ≡ answered g) (Promises g r d z)
 
 -- a sheet with so many steps
 abbrev pub with : Sheet → ℕ → Sheet
@@ -66,8 +67,11 @@ module _ (call : Call) (s : Sheet) (steps : List Step) (src ws scr : List ℕ) (
   abbrev n : ℕ
   n = taken s steps
 
+  abbrev g : Given
+  g = giving call s steps src ws scr
+
   -- an accepted call
-  module _ (t : accepted? a ≡ true) (R : ReadyFor call (with s n) steps src ws scr) (D : Drawing call (with s n) a steps src ws scr d z total) where
+  module _ (t : accepted? a ≡ true) (R : ReadyFor call (with s n) steps src ws scr) (D : Drawing (giving call (with s n) steps src ws scr) a d z total) where
     abbrev H : Holds (s .width) (s .height) n d (drawnOf call (s .width) (s .height) steps n ws src)
     H = D .drawn t .0
 
@@ -87,15 +91,15 @@ module _ (call : Call) (s : Sheet) (steps : List Step) (src ws scr : List ℕ) (
         go C.Render k = k
         go (C.Redraw g) k = rw t k
 
-    current : RedrawsFor call s steps src ws d
-    current g q = redraws (s .width) (s .height) steps n g src ws d (subst (λ (c : Call). Holds (s .width) (s .height) n d (drawnOf c (s .width) (s .height) steps n ws src)) q H)
+    current : RedrawsFor a g d
+    current _ r q = redraws (s .width) (s .height) steps n r src ws d (subst (λ (c : Call). Holds (s .width) (s .height) n d (drawnOf c (s .width) (s .height) steps n ws src)) q H)
 
-    valid : AllValid (s .width) (s .height) n d
-    valid = holds-valid (s .width) (s .height) n d _ H (go call (λ g q. R .redraw g q .0 .valid))
+    valid : ValidFor a g d
+    valid _ = holds-valid (s .width) (s .height) n d _ H (go call (λ g q. R .redraw g q .0 .valid))
       where
         go : (c : Call) → ((g : Region) → c ≡ C.Redraw g → (k : ℕ) → k < n → ValidPicture (read (s .width) (s .height) ws (k * size (s .width) (s .height)))) → (k : ℕ) → ValidPicture (drawnOf c (s .width) (s .height) steps n ws src k)
         go C.Render old k = layers-valid (s .width) (s .height) steps n (R .floods) src (R .ready .valid) k
-        go (C.Redraw g) old k = redrawn-layers-valid (s .width) (s .height) steps n (R .floods) src (R .ready .valid) (boundsOf g) ws (old g refl) k
+        go (C.Redraw r) old k = redrawn-layers-valid (s .width) (s .height) steps n (R .floods) src (R .ready .valid) (boundsOf r) ws (old r refl) k
 
   -- a refused one
   refused-counts : accepted? a ≡ false → total ≡ 0 → total ≡ worked a call s steps
@@ -107,20 +111,20 @@ module _ (call : Call) (s : Sheet) (steps : List Step) (src ws scr : List ℕ) (
       go (C.Redraw g) = rw e k
 
   -- z is the scratch buffer after the work, z′ after it was cleared
-  pub promised : (z′ : List ℕ) (r : Redrawn) → a ≡ answered call s steps src ws scr → (accepted? a ≡ true → usableOf n ≡ n)
+  pub promised : (z′ : List ℕ) (r : Redrawn) → a ≡ answered g → (accepted? a ≡ true → usableOf n ≡ n)
       → (accepted? a ≡ true → ReadyFor call (with s n) steps src ws scr)
-      → Drawing call (with s (usableOf n)) a steps src ws scr d z total → r ≡ record { answer = a; count = total }
-      → z′ ≡ ifAccepted a (zeros z) z → Promised call s steps src ws scr r d z′
-  promised z′ r fa all R D fr fz = subst (λ (x : Redrawn). Promised call s steps src ws scr x d z′) (sym fr) (go (accepted? a) refl)
+      → Drawing (giving call (with s (usableOf n)) steps src ws scr) a d z total → r ≡ record { answer = a; count = total }
+      → z′ ≡ ifAccepted a (zeros z) z → Promised g r d z′
+  promised z′ r fa all R D fr fz = subst (λ (x : Redrawn). Promised g x d z′) (sym fr) (go (accepted? a) refl)
     where
-      said : total ≡ worked a call s steps → d ≡ ifDrawn a call s steps src ws → z′ ≡ ifAccepted a (zeros scr) scr → (accepted? a ≡ true → RedrawsFor call s steps src ws d)
-          → (accepted? a ≡ true → AllValid (s .width) (s .height) n d) → Promised call s steps src ws scr (record { answer = a; count = total }) d z′
+      said : total ≡ worked a call s steps → d ≡ ifDrawn a g → z′ ≡ ifAccepted a (zeros scr) scr → RedrawsFor a g d → ValidFor a g d
+          → Promised g (record { answer = a; count = total }) d z′
       said c l y v w = (fa, (ap (λ (x : Answer). numberOf x) fa, (ap (λ (x : Answer). placeOf x) fa, (c, (l, (y, (v, w)))))))
 
-      go : (b : Bool) → accepted? a ≡ b → Promised call s steps src ws scr (record { answer = a; count = total }) d z′
+      go : (b : Bool) → accepted? a ≡ b → Promised g (record { answer = a; count = total }) d z′
       go true t =
-          let D′ = subst (λ (m : ℕ). Drawing call (with s m) a steps src ws scr d z total) (all t) D in
-          let z-is : z′ ≡ zeros z = rw t at fz in said (counts t (R t) D′) (if-accepted a _ _ _ t (bytes t (R t) D′)) (if-accepted a _ _ _ t (z-is ∙ ap (λ (m : ℕ). replicate {A = ℕ} m 0) (D′ .drawn t .1))) (λ e. current t (R t) D′) (λ e. valid t (R t) D′)
+          let D′ = subst (λ (m : ℕ). Drawing (giving call (with s m) steps src ws scr) a d z total) (all t) D in
+          let z-is : z′ ≡ zeros z = rw t at fz in said (counts t (R t) D′) (if-accepted a _ _ _ t (bytes t (R t) D′)) (if-accepted a _ _ _ t (z-is ∙ ap (λ (m : ℕ). replicate {A = ℕ} m 0) (D′ .drawn t .1))) (current t (R t) D′) (valid t (R t) D′)
       go false t =
           let k = D .refused t in
           let z-is : z′ ≡ z = rw t at fz in said (refused-counts t (k .2)) (if-refused a _ _ _ t (k .0)) (if-refused a _ _ _ t (z-is ∙ k .1)) (λ e. absurd (false≢true (sym t ∙ e))) (λ e. absurd (false≢true (sym t ∙ e)))

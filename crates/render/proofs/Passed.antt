@@ -22,7 +22,7 @@ use Rattle.filter.specs.Steps.{stepAt}
 use Rattle.filter.specs.Valid.{FloodBytes}
 use Rattle.filter.proofs.Refusals.{unless-accepted, else-accepted}
 use Rattle.filter.proofs.Scans.{scan-source, scan-layer}
-use Rattle.plan.proofs.Acceptance.{accepted-sizes, accepted-steps, accepted-rectangle}
+use Rattle.checks.proofs.Acceptance.{accepted-sizes, accepted-steps, accepted-rectangle}
 use Rattle.layers.specs.Ready.{Ready, ValidLayers}
 use Rattle.layers.specs.Drawing.{ReadyFor}
 use Rattle.render.specs.Code.{usableOf, AllBytes}

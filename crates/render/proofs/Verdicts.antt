@@ -19,7 +19,7 @@ use Rattle.filter.specs.Bytes.{size}
 use Rattle.filter.specs.Checks.{orElse, sizesAnswer, rectangleAnswer, stepsAnswer, pixelsAnswer, contentsAnswer, answerOf}
 use Rattle.filter.specs.Limits.{mostSteps}
 use Rattle.filter.proofs.Refusals.{else-accepted}
-use Rattle.plan.proofs.Acceptance.{accepted-sizes}
+use Rattle.checks.proofs.Acceptance.{accepted-sizes}
 use Rattle.render.specs.Code.{usableOf, settled}
 
 -- 14

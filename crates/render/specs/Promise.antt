@@ -1,7 +1,7 @@
 -- The answer to a call, and the buffers after a full render and after a redraw, for every input. Assumes nothing.
 use Prim.Native.Nat.{ℕ, _+_, _*_, _<_, min}
 use mathlib.Core.Path.{_≡_}
-use mathlib.Core.Bool.{cond}
+use mathlib.Core.Bool.{true, cond}
 use mathlib.Core.List.{List}
 use lib.ListN.{length, replicate}
 use Rattle.pixel.specs.Alpha.{Valid}
@@ -20,6 +20,7 @@ use Rattle.filter.specs.Bytes.{size, bytesOf, layersOf, redrawnOf}
 use Rattle.filter.specs.Change.{SameOutside}
 use Rattle.filter.specs.Answers.{numberOf, placeOf, accepted?}
 use Rattle.filter.specs.Checks.{answerOf}
+use Rattle.layers.specs.Given.{Given}
 
 -- "A refusal changes nothing that was lent."
 abbrev pub ifAccepted : Answer → List ℕ → List ℕ → List ℕ
@@ -59,14 +60,15 @@ abbrev pub taken : Sheet → List Step → ℕ
 taken s steps = min (s .count) (length steps)
 
 -- the answer of the refusal table, its number and its place
-abbrev pub answered : Call → Sheet → List Step → List ℕ → List ℕ → List ℕ → Answer
-answered call s steps src ws scr = answerOf (s .width) (s .height) steps (taken s steps) call src ws (length scr)
+abbrev pub answered : Given → Answer
+answered g =
+    answerOf (g .sheet .width) (g .sheet .height) (g .steps) (taken (g .sheet) (g .steps)) (g .call) (g .source) (g .workspace) (length (g .scratch))
 
-abbrev pub asNumber : Call → Sheet → List Step → List ℕ → List ℕ → List ℕ → ℕ
-asNumber call s steps src ws scr = numberOf (answered call s steps src ws scr)
+abbrev pub asNumber : Given → ℕ
+asNumber g = numberOf (answered g)
 
-abbrev pub asPlace : Call → Sheet → List Step → List ℕ → List ℕ → List ℕ → ℕ
-asPlace call s steps src ws scr = placeOf (answered call s steps src ws scr)
+abbrev pub asPlace : Given → ℕ
+asPlace g = placeOf (answered g)
 
 -- the bytes that a call makes of the layers in ws
 unfoldable pub drawnBytes : Call → Sheet → List Step → List ℕ → List ℕ → List ℕ
@@ -74,14 +76,19 @@ drawnBytes C.Render s steps src ws = layerBytes (s .width) (s .height) steps (ta
 drawnBytes (C.Redraw g) s steps src ws = redrawnBytes (s .width) (s .height) steps (taken s steps) g ws src
 
 -- the workspace after a call with the answer a
-abbrev pub ifDrawn : Answer → Call → Sheet → List Step → List ℕ → List ℕ → List ℕ
-ifDrawn a call s steps src ws = ifAccepted a (drawnBytes call s steps src ws) ws
+abbrev pub ifDrawn : Answer → Given → List ℕ
+ifDrawn a g = ifAccepted a (drawnBytes (g .call) (g .sheet) (g .steps) (g .source) (g .workspace)) (g .workspace)
 
 -- the pixels worked: those of a redraw; a full render has no count
 unfoldable pub worked : Answer → Call → Sheet → List Step → ℕ
 worked a C.Render s steps = 0
 worked a (C.Redraw g) s steps = countOf a (s .width) (s .height) steps (taken s steps) g
 
--- demand 3, where the call is a redraw
-abbrev pub RedrawsFor : Call → Sheet → List Step → List ℕ → List ℕ → List ℕ → Type 0
-RedrawsFor call s steps src before after = (g : Region) → call ≡ C.Redraw g → Redraws (s .width) (s .height) steps (taken s steps) g src before after
+-- demand 3, where the call is an accepted redraw
+abbrev pub RedrawsFor : Answer → Given → List ℕ → Type 0
+RedrawsFor a g after = accepted? a ≡ true → (r : Region) → g .call ≡ C.Redraw r
+    → Redraws (g .sheet .width) (g .sheet .height) (g .steps) (taken (g .sheet) (g .steps)) r (g .source) (g .workspace) after
+
+-- "no colour above its alpha", after an accepted call
+abbrev pub ValidFor : Answer → Given → List ℕ → Type 0
+ValidFor a g after = accepted? a ≡ true → AllValid (g .sheet .width) (g .sheet .height) (taken (g .sheet) (g .steps)) after

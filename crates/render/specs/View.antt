@@ -1,5 +1,5 @@
 -- "A layer can be shown." RULES 8. Assumes nothing.
-use Prim.Native.Nat.{ℕ, _*_}
+use Prim.Native.Nat.{ℕ, _+_, _*_}
 use mathlib.Core.Bool.{Bool, cond, _&&_}
 use mathlib.Core.List.{List}
 use lib.Dec.{ltb, eqb}
@@ -15,6 +15,10 @@ shown? w h steps n long = canvas? w h && (count? steps && (eqb long (steps * siz
 -- "that layer's own bytes in the lent workspace, all 4·W·H; otherwise an empty part at its start", by the place in a workspace of `long` bytes
 unfoldable pub viewAt : ℕ → ℕ → ℕ → ℕ → ℕ → Declared.View
 viewAt w h steps n long = cond (shown? w h steps n long) (record { offset = n * size w h; bytes = size w h }) (record { offset = 0; bytes = 0 })
+
+-- where it lies, when the workspace lies at p: a block and an offset in it
+abbrev pub pointer : Declared.View → ℕ × ℕ → ℕ × ℕ
+pointer v p = (p .0, v .offset + p .1)
 
 -- the bytes at a place
 abbrev pub partAt : Declared.View → List ℕ → List ℕ

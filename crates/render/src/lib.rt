@@ -1,23 +1,23 @@
 // The entry points: a sheet is drawn into buffers that the caller lends, whole or in part, and a layer is shown. None asks anything
 // beforehand: what cannot be drawn is refused with the number and place of RULES 7.2, and a refusal changes no byte.
-mod checks;
+mod settling;
 pub mod views;
 
-use checks::counted;
-use checks::finish;
-use checks::settle;
-use checks::usable;
 use filter::Answer;
 use filter::Call;
 use filter::Sheet;
 use filter::Step;
 use layers::check_steps;
 use layers::draw_steps;
+use settling::counted;
+use settling::finish;
+use settling::settle;
+use settling::usable;
 use window::lesser;
 ghost use mathlib.Core.Path.{_≡_};
-ghost use mathlib.Core.Bool.{true};
-ghost use Rattle.filter.specs.Answers.{numberOf, placeOf, accepted?};
-ghost use Rattle.render.specs.Promise.{taken, answered, asNumber, asPlace, ifAccepted, worked, ifDrawn, zeros, RedrawsFor, AllValid};
+ghost use Rattle.filter.specs.Answers.{numberOf, placeOf};
+ghost use Rattle.layers.specs.Given.{given};
+ghost use Rattle.render.specs.Promise.{answered, asNumber, asPlace, ifAccepted, worked, ifDrawn, zeros, RedrawsFor, ValidFor};
 
 // The answer to a call, and how many pixels a redraw worked.
 pub struct Redrawn {
@@ -41,14 +41,14 @@ pub fn draw(
     workspace: &mut [u8],
     scratch: &mut [u8],
 ) -> Redrawn
-    ensures answers { λ r. ⌜ r .answer ≡ answered call sheet (now (steps .entry)) (now (source .entry)) (now (workspace .entry)) (now (scratch .entry)) ⌝ }
-    ensures number { λ r. ⌜ numberOf (r .answer) ≡ asNumber call sheet (now (steps .entry)) (now (source .entry)) (now (workspace .entry)) (now (scratch .entry)) ⌝ }
-    ensures place { λ r. ⌜ placeOf (r .answer) ≡ asPlace call sheet (now (steps .entry)) (now (source .entry)) (now (workspace .entry)) (now (scratch .entry)) ⌝ }
+    ensures answers { λ r. ⌜ r .answer ≡ answered (given call sheet steps source workspace scratch) ⌝ }
+    ensures number { λ r. ⌜ numberOf (r .answer) ≡ asNumber (given call sheet steps source workspace scratch) ⌝ }
+    ensures place { λ r. ⌜ placeOf (r .answer) ≡ asPlace (given call sheet steps source workspace scratch) ⌝ }
     ensures counts { λ r. ⌜ r .count ≡ worked (r .answer) call sheet (now (steps .entry)) ⌝ }
-    ensures layers { λ r. ⌜ now (workspace .exit) ≡ ifDrawn (r .answer) call sheet (now (steps .entry)) (now (source .entry)) (now (workspace .entry)) ⌝ }
+    ensures layers { λ r. ⌜ now (workspace .exit) ≡ ifDrawn (r .answer) (given call sheet steps source workspace scratch) ⌝ }
     ensures cleared { λ r. ⌜ now (scratch .exit) ≡ ifAccepted (r .answer) (zeros (now (scratch .entry))) (now (scratch .entry)) ⌝ }
-    ensures redraws { λ r. ⌜ (accepted? (r .answer) ≡ true → RedrawsFor call sheet (now (steps .entry)) (now (source .entry)) (now (workspace .entry)) (now (workspace .exit))) ⌝ }
-    ensures valid { λ r. ⌜ (accepted? (r .answer) ≡ true → AllValid (sheet .width) (sheet .height) (taken sheet (now (steps .entry))) (now (workspace .exit))) ⌝ }
+    ensures redraws { λ r. ⌜ RedrawsFor (r .answer) (given call sheet steps source workspace scratch) (now (workspace .exit)) ⌝ }
+    ensures valid { λ r. ⌜ ValidFor (r .answer) (given call sheet steps source workspace scratch) (now (workspace .exit)) ⌝ }
 {
     let n = lesser(sheet.count, steps.len());
     let count = usable(n);

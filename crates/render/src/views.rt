@@ -1,12 +1,12 @@
 // A layer as a part of the caller's workspace.
 use super::View;
-use plan::sizes::is_canvas;
-use plan::sizes::is_count;
-use plan::sizes::picture_size;
+use checks::sizes::is_canvas;
+use checks::sizes::is_count;
+use checks::sizes::picture_size;
 ghost use mathlib.Core.Path.{_≡_};
 ghost use Prim.Native.Nat.{_+_, _≤_};
 ghost use lib.ListN.{length};
-ghost use Rattle.render.specs.View.{viewAt, partAt};
+ghost use Rattle.render.specs.View.{viewAt, pointer, partAt};
 
 // Where layer n lies in a workspace of `long` bytes; an empty part at its start where there is no such layer.
 pub fn place(width: usize, height: usize, steps: usize, n: usize, long: usize) -> View
@@ -45,7 +45,7 @@ pub fn place(width: usize, height: usize, steps: usize, n: usize, long: usize) -
 
 // The layer's own bytes.
 pub fn layer(width: usize, height: usize, steps: usize, n: usize, workspace: &[u8]) -> &[u8]
-    ensures placed { λ r. ⌜ r .ptr ≡ (workspace .entry .ptr .0, viewAt width height steps n (length (now (workspace .entry))) .offset + workspace .entry .ptr .1) ⌝ }
+    ensures placed { λ r. ⌜ r .ptr ≡ pointer (viewAt width height steps n (length (now (workspace .entry)))) (workspace .entry .ptr) ⌝ }
     ensures shown { λ r. ⌜ now r ≡ partAt (viewAt width height steps n (length (now (workspace .entry)))) (now (workspace .entry)) ⌝ }
 {
     let v = place(width, height, steps, n, workspace.len());

@@ -8,7 +8,7 @@ ghost use Rattle.filter.specs.declared.Input.the-variants.{Layer};
 ghost use Rattle.filter.specs.Limits.{longestSide, mostSteps};
 ghost use Rattle.stage.specs.Shown.{spacesIn, Tabled};
 ghost use Rattle.stage.specs.Code.{converts?, RowConverted};
-use super::Lens;
+use super::Context;
 use filter::Input;
 use pixel::Space;
 use pixel::convert::differ;
@@ -16,38 +16,38 @@ use raster_space::convert_row;
 use raster_space::few::convert_few;
 
 // The space that layer k is kept in.
-fn layer_space(lens: Lens, k: usize) -> Space
+fn layer_space(context: Context, k: usize) -> Space
     requires { ⌜ k < mostSteps ⌝ }
-    ensures { λ r. ⌜ r ≡ spacesIn lens (Layer k) ⌝ }
+    ensures { λ r. ⌜ r ≡ spacesIn context (Layer k) ⌝ }
 {
-    if lens.linear[k] {
+    if context.linear[k] {
         return Space::Linear;
     }
     Space::Srgb
 }
 
 // Whether the rows of an input are converted. The source's alpha is the same in both spaces.
-pub fn converts(lens: Lens, input: Input) -> bool
+pub fn converts(context: Context, input: Input) -> bool
     requires { ⌜ allowed? mostSteps input ≡ true ⌝ }
-    ensures { λ r. ⌜ r ≡ converts? lens input ⌝ }
+    ensures { λ r. ⌜ r ≡ converts? context input ⌝ }
 {
-    let space = lens.space;
+    let space = context.space;
     match input {
         Input::Source => differ(Space::Srgb, space),
         Input::SourceAlpha => false,
         Input::Layer(k) => {
-            let kept = layer_space(lens, k);
+            let kept = layer_space(context, k);
             differ(kept, space)
         }
     }
 }
 
 // The first `count` pixels of a row, converted to the step's space in place.
-pub fn convert_loaded(lens: Lens, pairs: &[u8], row: &mut [u8], count: usize)
-    requires { ⌜ Tabled lens (now pairs) × (count ≤ longestSide) × (4 * count ≤ length (now row)) ⌝ }
-    ensures { λ _. ⌜ RowConverted lens count (now (row .entry)) (now (row .exit)) ⌝ }
+pub fn convert_loaded(context: Context, pairs: &[u8], row: &mut [u8], count: usize)
+    requires { ⌜ Tabled context (now pairs) × (count ≤ longestSide) × (4 * count ≤ length (now row)) ⌝ }
+    ensures { λ _. ⌜ RowConverted context count (now (row .entry)) (now (row .exit)) ⌝ }
 {
-    let space = lens.space;
+    let space = context.space;
     if 0 < pairs.len() {
         convert_row(space, row, count, pairs);
         return;

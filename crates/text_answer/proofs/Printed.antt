@@ -4,7 +4,6 @@ use mathlib.Core.Bool.{Bool, true, false, cond}
 use mathlib.Core.List.{List, _++_}
 use Prim.Native.Nat.{ℕ, _+_, _-_, _*_, _≤_, _<_}
 use native.Mathlib.Omega.{arith}
-use lib.Dec.{leb}
 use lib.ListN.{length, take, drop, replicate, length-append}
 use lib.Seq.{take-at}
 use borrow.Author.Tests.{le-leb, lt-leb}
@@ -23,7 +22,7 @@ use Rattle.lines.proofs.Counted.{answer-some, render-bytes}
 use Rattle.text.specs.declared.Reading.{Reading}
 use Rattle.text_print.specs.Output.{inSrgb, okText, refusedText}
 use Rattle.text_print.specs.Code.{Put}
-use Rattle.text_answer.specs.Answer.{lastLayer, lastSpace, answerText, sheetText, readText, readingText, printedOf}
+use Rattle.text_answer.specs.Answer.{rendering, lastLayer, lastSpace, answerText, sheetText, readText, readingText, printedOf, printedInto}
 use Rattle.text_answer.specs.Code.{answerFrom}
 use Rattle.text_answer.proofs.LastLayer.{last-read}
 
@@ -46,17 +45,17 @@ answer-same a w h p q e = go (accepted? a) e
 
 -- the n steps of a text, drawn into a workspace of zeros
 module _ (s : List ℕ) (w h n : ℕ) (src d : List ℕ) (a : Answer) (steps : n ≡ readingIn F.Sheet s .count) (zeros : d ≡ replicate (n * size w h) 0)
-    (is : a ≡ answerIn F.Sheet s C.Render w h src d (replicate (2 * size w h) 0)) where
+    (is : a ≡ answerIn (rendering s w h src d)) where
   pub drawn-some : accepted? a ≡ true → 0 < n
   drawn-some t = omega (arith, steps, answer-some F.Sheet s w h C.Render src d (replicate (2 * size w h) 0) (ap accepted? (sym is) ∙ t))
 
-  pub drawn-text : (d′ : List ℕ) → d′ ≡ layersIn a F.Sheet s C.Render w h src d → (q : Space) → q ≡ lastSpace s n → answerFrom a q w h n d′ ≡ sheetText s w h n src
+  pub drawn-text : (d′ : List ℕ) → d′ ≡ layersIn a (rendering s w h src d) → (q : Space) → q ≡ lastSpace s n → answerFrom a q w h n d′ ≡ sheetText s w h n src
   unfolding sheetText
   drawn-text d′ e q f =
       ap (λ (x : Space). answerFrom a x w h n d′) f
       ∙ answer-same a w h (inSrgb (lastSpace s n) (read w h d′ ((n - 1) * size w h))) (inSrgb (lastSpace s n) (lastLayer s w h n src))
-      (λ t. ap (inSrgb (lastSpace s n)) (last-read w h (listIn F.Sheet s) n src d′ (drawn-some t) (e ∙ rw steps (render-bytes F.Sheet s w h a src d t))))
-      ∙ ap (λ (x : Answer). answerText x w h (inSrgb (lastSpace s n) (lastLayer s w h n src))) (is ∙ ap (λ (l : List ℕ). answerIn F.Sheet s C.Render w h src l (replicate (2 * size w h) 0)) zeros)
+      (λ t. ap (inSrgb (lastSpace s n)) (last-read w h (listIn F.Sheet s) n src d′ (drawn-some t) (e ∙ rw steps (render-bytes F.Sheet s w h a src d (replicate (2 * size w h) 0) t))))
+      ∙ ap (λ (x : Answer). answerText x w h (inSrgb (lastSpace s n) (lastLayer s w h n src))) (is ∙ ap (λ (l : List ℕ). answerIn (rendering s w h src l)) zeros)
 
 -- a reading
 pub reading-line : (s : List ℕ) (r : Reading) (n : ℕ) (a : ReadAnswer) → a ≡ Line n → refusedText 15 n ≡ readingText s r a
@@ -92,8 +91,8 @@ module _ (s : List ℕ) {r : Reading} {d d′ : List ℕ} {n : ℕ} (is : r ≡ 
   pub printed-length : n ≡ length (printedOf s)
   printed-length = omega (arith, p .ends, ap length text-is)
 
-  pub printed-stored : (out : List ℕ) {out′ : List ℕ} {m : ℕ} → n ≤ length out → Put (take n d′) 0 out out′ m → out′ ≡ cond (leb (length (printedOf s)) (length out)) (stored out 0 (printedOf s)) out
+  pub printed-stored : (out : List ℕ) {out′ : List ℕ} {m : ℕ} → n ≤ length out → Put (take n d′) 0 out out′ m → out′ ≡ printedInto out s
   printed-stored out h q = rw (le-leb (length (printedOf s)) (length out) (omega (arith, printed-length))) (q .is ∙ ap (stored out 0) (put-taken p ∙ text-is))
 
-  pub printed-kept : (out : List ℕ) → length out < n → out ≡ cond (leb (length (printedOf s)) (length out)) (stored out 0 (printedOf s)) out
+  pub printed-kept : (out : List ℕ) → length out < n → out ≡ printedInto out s
   printed-kept out h = rw (lt-leb (length (printedOf s)) (length out) (omega (arith, printed-length)))

@@ -2,7 +2,8 @@
 use mathlib.Core.Bool.{cond}
 use mathlib.Core.List.{List}
 use Prim.Native.Nat.{ℕ, _-_, _*_}
-use lib.ListN.{take, replicate}
+use lib.Dec.{leb}
+use lib.ListN.{length, take, replicate}
 use Rattle.pixel.specs.declared.Space as S
 use Rattle.filter.specs.declared.Answer as A
 use Rattle.filter.specs.declared.Call.the-variants.{Render}
@@ -10,16 +11,21 @@ use Rattle.filter.specs.Picture.{Picture}
 use Rattle.filter.specs.Bytes.{size, layersOf}
 use Rattle.filter.specs.Steps.{stepAt}
 use Rattle.filter.specs.Answers.{numberOf, placeOf, accepted?}
+use Rattle.text_step.specs.Many.{stored}
 use Rattle.text.specs.declared.Form.the-variants as F
 use Rattle.text.specs.declared.ReadAnswer.{ReadAnswer}
 use Rattle.text.specs.declared.ReadAnswer.the-variants.{Done, Line, Records}
 use Rattle.text.specs.declared.Reading.{Reading}
 use Rattle.text_print.specs.Output.{inSrgb, okText, refusedText}
-use Rattle.lines.specs.Lines.{readingIn, listIn, answerIn}
+use Rattle.lines.specs.Lines.{GivenText, givingText, readingIn, listIn, answerIn}
 
--- a full render of the text's n steps on the source src, with a workspace and a scratch buffer of the right lengths
+-- a full render of the text's sheet on the source src, with a scratch buffer of the right length
+abbrev pub rendering : List ℕ → ℕ → ℕ → List ℕ → List ℕ → GivenText
+rendering s w h src ws = givingText F.Sheet s Render w h src ws (replicate (2 * size w h) 0)
+
+-- its answer for n steps, with a workspace of the right length
 abbrev pub answered : List ℕ → ℕ → ℕ → ℕ → List ℕ → A.Answer
-answered s w h n src = answerIn F.Sheet s Render w h src (replicate (n * size w h) 0) (replicate (2 * size w h) 0)
+answered s w h n src = answerIn (rendering s w h src (replicate (n * size w h) 0))
 
 abbrev pub lastLayer : List ℕ → ℕ → ℕ → ℕ → List ℕ → Picture
 lastLayer s w h n src = layersOf w h (listIn F.Sheet s) n src (n - 1)
@@ -53,3 +59,7 @@ readingText s r Records = refusedText 21 0
 -- what `sheet` prints for a text
 unfoldable pub printedOf : List ℕ → List ℕ
 printedOf s = readingText s (readingIn F.Sheet s) (readingIn F.Sheet s .answer)
+
+-- that at the start of out, where it fits
+abbrev pub printedInto : List ℕ → List ℕ → List ℕ
+printedInto out s = cond (leb (length (printedOf s)) (length out)) (stored out 0 (printedOf s)) out

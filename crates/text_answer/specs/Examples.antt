@@ -14,7 +14,7 @@ use Rattle.pixel.specs.Convert.{differ?, converted}
 use Rattle.filter.specs.Rect as R
 use Rattle.filter.specs.Picture.{patch}
 use Rattle.filter.specs.Layers as L
-use Rattle.filter.specs.Kinds.{work}
+use Rattle.filter.specs.Kinds.{workOf, paired}
 use Rattle.filter.specs.Steps as S
 use Rattle.filter.specs.Sheets.{spaceOf, effectOf}
 use Rattle.filter.specs.Bytes as B
@@ -55,5 +55,11 @@ pub record Printed : Type 0 where
   pub minus : printedOf (canvasLine ++ (blurLine ++ rowLine)) ≡ refusedText 9 0
 
 pub printed : Printed
-unfolding nearest judgedRatio composited flooded firstInvalid remapped toLinear toSrgb differ? converted R.inside patch L.replaced L.initial L.rendered work S.resolved spaceOf effectOf B.read B.concat accepted? C.firstOf C.all C.inputs? C.numbersAnswer C.stepAnswer C.sizesAnswer C.answerOf T.split T.join T.indexOf F.same F.digitOf F.accumulated F.digitsOf F.naturalOf F.hexOf F.fractionOf F.magnitudeOf F.numberOf M.all M.concat M.padded M.stored space? spaceAt closed? K.named K.firstNamed K.mergeInputs K.kindOf P.inputOf P.wiresOf P.operandsOf P.assembled P.stepAs P.stepOf D.pixelsOf D.canvasOf linesOf X.row? X.line? X.after X.textLines X.textOf readingOf digit shortest decimal hexByte hexPixel line listed rowFields rowLines okText refusedText answerText sheetText readingText printedOf
+unfolding nearest judgedRatio composited flooded firstInvalid remapped toLinear toSrgb differ? converted R.inside patch
+    L.replaced L.initial L.rendered workOf paired S.shaped spaceOf effectOf B.read B.concat accepted? C.firstOf C.all C.inputs?
+    C.numbersAnswer C.stepAnswer C.sizesAnswer C.answerOf T.split T.join T.indexOf F.same F.digitOf F.accumulated
+    F.digitsOf F.naturalOf F.hexOf F.fractionOf F.magnitudeOf F.numberOf M.all M.concat M.padded M.stored space? spaceAt
+    closed? K.named K.firstNamed K.mergeInputs K.kindOf P.inputOf P.wiresOf P.operandsOf P.assembled P.stepAs P.stepOf
+    D.pixelsOf D.canvasOf linesOf X.row? X.line? X.after X.textLines X.textOf readingOf digit shortest decimal hexByte
+    hexPixel line listed rowFields rowLines okText refusedText answerText sheetText readingText printedOf
 printed = record { paper = refl; linear = refl; nothing = refl; stepless = refl; minus = refl }

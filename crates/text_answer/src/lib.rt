@@ -1,13 +1,13 @@
 // From a text to what the program `sheet` prints. Canvases in text are small, so all buffers are local.
+use checks::answers::is_accepted;
+use checks::answers::number;
+use checks::answers::place;
+use checks::sizes::picture_size;
 use filter::Answer;
 use filter::Call;
 use filter::Sheet;
 use lines::draw_lines;
 use pixel::Space;
-use plan::answers::is_accepted;
-use plan::answers::number;
-use plan::answers::place;
-use plan::sizes::picture_size;
 use text::Form;
 use text::ReadAnswer;
 use text::Reading;
@@ -17,19 +17,16 @@ use text_print::digits::put_word;
 use text_print::lines::put_ok;
 use text_print::lines::put_refused;
 ghost use mathlib.Core.Path.{_≡_};
-ghost use mathlib.Core.Bool.{true, cond};
+ghost use mathlib.Core.Bool.{true};
 ghost use Prim.Native.Nat.{_-_, _*_, _≤_, _<_};
-ghost use lib.Dec.{leb};
 ghost use lib.ListN.{length, replicate};
-ghost use Rattle.filter.specs.declared.Call.the-variants as C;
 ghost use Rattle.filter.specs.Bytes.{size, read as picture};
 ghost use Rattle.filter.specs.Answers.{accepted?};
 ghost use Rattle.filter.specs.Limits.{mostSteps, longestTextSide};
 ghost use Rattle.text.specs.declared.Form.the-variants as F;
-ghost use Rattle.text_step.specs.Many.{stored};
 ghost use Rattle.lines.specs.Lines.{readingIn, answerIn, layersIn};
 ghost use Rattle.text_print.specs.Code.{Put};
-ghost use Rattle.text_answer.specs.Answer.{longest, lastSpace, sheetText, readText, readingText, printedOf};
+ghost use Rattle.text_answer.specs.Answer.{longest, rendering, lastSpace, sheetText, readText, readingText, printedOf, printedInto};
 ghost use Rattle.text_answer.specs.Code.{Within, answerFrom};
 
 // No answer is longer: `ok` and sixteen rows of sixteen pixels.
@@ -38,8 +35,8 @@ pub const LONGEST: usize = 2371;
 // A full render of the text's steps with a scratch buffer of its own.
 fn draw(text: &[u8], width: usize, height: usize, source: &[u8], workspace: &mut [u8]) -> Answer
     requires { ⌜ (width ≤ longestTextSide) × (height ≤ longestTextSide) ⌝ }
-    ensures { λ a. ⌜ a ≡ answerIn F.Sheet (now (text .entry)) C.Render width height (now (source .entry)) (now (workspace .entry)) (replicate (2 * size width height) 0) ⌝ }
-    ensures { λ a. ⌜ now (workspace .exit) ≡ layersIn a F.Sheet (now (text .entry)) C.Render width height (now (source .entry)) (now (workspace .entry)) ⌝ }
+    ensures { λ a. ⌜ a ≡ answerIn (rendering (now (text .entry)) width height (now (source .entry)) (now (workspace .entry))) ⌝ }
+    ensures { λ a. ⌜ now (workspace .exit) ≡ layersIn a (rendering (now (text .entry)) width height (now (source .entry)) (now (workspace .entry))) ⌝ }
 {
     let mut scratch = [0u8; 2 * Sheet::TEXT_PICTURE];
     let n = 2 * picture_size(width, height);
@@ -76,8 +73,8 @@ fn print_answer(
     workspace: &[u8],
     out: &mut [u8],
 ) -> usize
-    requires { ⌜ (width ≤ longestTextSide) × (height ≤ longestTextSide) × (length (now workspace) ≡ count * size width height) × (length (now out) ≡ longest) ⌝ }
-    requires { ⌜ (accepted? answer ≡ true → 0 < count) ⌝ }
+    requires { ⌜ (width ≤ longestTextSide) × (height ≤ longestTextSide) × (length (now workspace) ≡ count * size width height) ⌝ }
+    requires { ⌜ (length (now out) ≡ longest) × (accepted? answer ≡ true → 0 < count) ⌝ }
     ensures { λ r. ⌜ Put (answerFrom answer space width height count (now (workspace .entry))) 0 (now (out .entry)) (now (out .exit)) r ⌝ }
 {
     if is_accepted(answer) {
@@ -174,7 +171,7 @@ fn print_reading(text: &[u8], reading: Reading, out: &mut [u8]) -> usize
 pub fn answer(text: &[u8], out: &mut [u8]) -> usize
     ensures long { λ r. ⌜ r ≡ length (printedOf (now (text .entry))) ⌝ }
     ensures enough { λ r. ⌜ r ≤ longest ⌝ }
-    ensures printed { λ _. ⌜ now (out .exit) ≡ cond (leb (length (printedOf (now (text .entry)))) (length (now (out .entry)))) (stored (now (out .entry)) 0 (printedOf (now (text .entry)))) (now (out .entry)) ⌝ }
+    ensures printed { λ _. ⌜ now (out .exit) ≡ printedInto (now (out .entry)) (now (text .entry)) ⌝ }
 {
     let mut printed = [0u8; LONGEST];
     let n = print_reading(text, scan(Form::Sheet, text, Sheet::STEPS), &mut printed);

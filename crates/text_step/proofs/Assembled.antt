@@ -7,7 +7,7 @@ use native.Mathlib.Omega.{arith}
 use lib.Dec.{leb, lit≤}
 use lib.ListN.{take, drop, replicate}
 use borrow.Author.Tests.{leb-true}
-use Rattle.window.proofs.Truths.{and-right, and-no}
+use Rattle.window.proofs.Truths.{and-left, and-right, and-no}
 use Rattle.pixel.specs.declared.Space.{Space}
 use Rattle.filter.specs.declared.Input.the-variants.{Source, SourceAlpha}
 use Rattle.filter.specs.declared.Kind.{Kind}
@@ -15,13 +15,17 @@ use Rattle.filter.specs.declared.Kind.the-variants as K
 use Rattle.filter.specs.declared.Region.{Region}
 use Rattle.filter.specs.declared.Wire.{Wire}
 use Rattle.filter.specs.declared.Operand.{Operand}
-use Rattle.filter.specs.Steps.{noWire, noOperand, inputsOf, numbersOf}
+use Rattle.filter.specs.declared.Signature.{Signature}
+use Rattle.filter.specs.Limits.{mostNumbers}
+use Rattle.filter.specs.Signature.{countOf, signatureOf, byteFieldsOf, inputsOf, numbersOf}
+use Rattle.filter.specs.Checks.{merges?}
+use Rattle.filter.specs.Steps.{noWire, noOperand}
 use Rattle.text_field.specs.Words.{bytes}
 use Rattle.text_field.specs.Field.{same, wholeOf}
 use Rattle.text_field.specs.declared.Amount.{Amount}
 use Rattle.text_step.specs.Many.{all, padded}
 use Rattle.text_step.specs.Spaces.{spaceAt, closed?}
-use Rattle.text_step.specs.Kinds.{kindOf, bytesOf, fieldsOf, sound?}
+use Rattle.text_step.specs.Kinds.{kindOf, fieldsOf, bytes?, sound?}
 use Rattle.text_step.specs.StepLine.{region?, regionOf, layerOf, inputOf, input?, wireOf, wiresOf, number?, operandOf, operandsOf, noStep, assembled, stepAs, stepOf}
 use Rattle.text_step.specs.declared.Reference.{Reference}
 use Rattle.text_step.specs.declared.Reference.the-variants.{To}
@@ -40,11 +44,11 @@ pub wires-end : (fs : List (List ℕ)) {ws : List Wire} → (all input? fs ≡ t
 unfolding wiresOf
 wires-end fs (e, v) = rw (e, v)
 
-pub operands-bad : (fs : List (List ℕ)) → all number? fs ≡ false → record { good = false; operands = replicate 20 noOperand } ≡ operandsOf fs
+pub operands-bad : (fs : List (List ℕ)) → all number? fs ≡ false → record { good = false; operands = replicate mostNumbers noOperand } ≡ operandsOf fs
 unfolding operandsOf
 operands-bad fs e = rw e
 
-pub operands-end : (fs : List (List ℕ)) {os : List Operand} → (all number? fs ≡ true) × (os ≡ padded 20 noOperand (map operandOf fs)) → record { good = true; operands = os } ≡ operandsOf fs
+pub operands-end : (fs : List (List ℕ)) {os : List Operand} → (all number? fs ≡ true) × (os ≡ padded mostNumbers noOperand (map operandOf fs)) → record { good = true; operands = os } ≡ operandsOf fs
 unfolding operandsOf
 operands-end fs (e, v) = rw (e, v)
 
@@ -62,37 +66,34 @@ module _ (f : List ℕ) {a : Bool} (e : a ≡ same f (bytes "src")) where
   unfolding inputOf
   input-layer t g u x y = y ∙ rw (sym e ∙ t, sym g ∙ u, x)
 
--- a sound kind has few fields
-sound-inputs : (k : Kind) (fs : List (List ℕ)) → sound? k fs ≡ true → inputsOf k ≤ 4
-sound-inputs (K.Flood r g b) fs e = lit≤ tt
-sound-inputs K.Offset fs e = lit≤ tt
-sound-inputs K.Blur fs e = lit≤ tt
-sound-inputs K.Erode fs e = lit≤ tt
-sound-inputs K.Dilate fs e = lit≤ tt
-sound-inputs K.Matrix fs e = lit≤ tt
-sound-inputs K.Saturate fs e = lit≤ tt
-sound-inputs K.LuminanceToAlpha fs e = lit≤ tt
-sound-inputs (K.Composite o) fs e = lit≤ tt
-sound-inputs K.Arithmetic fs e = lit≤ tt
-sound-inputs (K.Merge n) fs e = leb-true n 4 (and-right (leb 1 n) (leb n 4) e)
+-- a sound kind, by its row
+pub sound-is : (k : Kind) (fs : List (List ℕ)) {r : Signature} {m : ℕ} {a b y o : Bool} → r ≡ signatureOf k → a ≡ merges? r → m ≡ countOf (r .numbers)
+    → y ≡ bytes? k fs → b ≡ (leb m mostNumbers && y) → o ≡ (a && b) → o ≡ sound? k fs
+sound-is k fs er ea em ey eb eo = eo ∙ rw (ea, eb, em, ey, er)
 
-few-bytes : (k : Kind) → bytesOf k ≤ 3
+-- a sound kind has few fields
+few-bytes : (k : Kind) → byteFieldsOf k ≤ 3
 few-bytes (K.Flood r g b) = lit≤ tt
 few-bytes K.Offset = lit≤ tt
-few-bytes K.Blur = lit≤ tt
-few-bytes K.Erode = lit≤ tt
-few-bytes K.Dilate = lit≤ tt
-few-bytes K.Matrix = lit≤ tt
-few-bytes K.Saturate = lit≤ tt
-few-bytes K.LuminanceToAlpha = lit≤ tt
-few-bytes (K.Composite o) = lit≤ tt
-few-bytes K.Arithmetic = lit≤ tt
+few-bytes (K.Pass p) = lit≤ tt
+few-bytes (K.Map m) = lit≤ tt
+few-bytes (K.Pair p) = lit≤ tt
 few-bytes (K.Merge n) = lit≤ tt
 
-pub few-fields : (k : Kind) (fs : List (List ℕ)) {s : Bool} {b i m : ℕ} → s ≡ sound? k fs → s ≡ true → b ≡ bytesOf k → i ≡ inputsOf k → (m ≡ numbersOf k) × (m ≤ 20) → (i ≤ 4) × (5 + b + i + m ≤ 32)
-few-fields k fs e h eb ei em =
-    let l : inputsOf k ≤ 4 = sound-inputs k fs (sym e ∙ h) in
-    (omega arith, omega (arith, few-bytes k, em .1))
+sound-inputs : (k : Kind) (fs : List (List ℕ)) → sound? k fs ≡ true → inputsOf k ≤ 4
+sound-inputs k fs e =
+    leb-true (inputsOf k) 4 (and-right (leb (signatureOf k .least) (inputsOf k)) (leb (inputsOf k) 4) (and-left (merges? (signatureOf k)) (leb (numbersOf k) mostNumbers && bytes? k fs) e))
+
+sound-numbers : (k : Kind) (fs : List (List ℕ)) → sound? k fs ≡ true → numbersOf k ≤ mostNumbers
+sound-numbers k fs e =
+    leb-true (numbersOf k) mostNumbers (and-left (leb (numbersOf k) mostNumbers) (bytes? k fs) (and-right (merges? (signatureOf k)) (leb (numbersOf k) mostNumbers && bytes? k fs) e))
+
+pub few-fields : (k : Kind) (fs : List (List ℕ)) {r : Signature} {s : Bool} {m : ℕ} → r ≡ signatureOf k → s ≡ sound? k fs → s ≡ true → m ≡ countOf (r .numbers)
+    → (r .inputs ≤ 4) × (m ≤ mostNumbers) × (5 + r .bytes + r .inputs + m ≤ 12 + mostNumbers)
+few-fields k fs er e h em =
+    let i = sound-inputs k fs (sym e ∙ h) in
+    let n = sound-numbers k fs (sym e ∙ h) in
+    rw (em, er) (i, n, omega (arith, few-bytes k, i, n))
 
 -- the parts together
 module _ (k : Kind) (t : Bool) (r : Region) (w : Wires) (o : Operands) (p : Space) {a b : Bool} (e : a ≡ (w .good && o .good)) (f : b ≡ (t && a)) where
@@ -105,24 +106,24 @@ module _ (k : Kind) (t : Bool) (r : Region) (w : Wires) (o : Operands) (p : Spac
   assembled-bad g d = d ∙ rw (sym (ap (t &&_) e) ∙ sym f ∙ g)
 
 -- the line of a kind
-needed : (k : Kind) {b i m n : ℕ} → b ≡ bytesOf k → i ≡ inputsOf k → m ≡ numbersOf k → n ≡ 5 + b + i + m → n ≡ fieldsOf k
-needed k eb ei em en = omega arith
+needed : (k : Kind) {r : Signature} {m n : ℕ} → r ≡ signatureOf k → m ≡ countOf (r .numbers) → n ≡ 5 + r .bytes + r .inputs + m → n ≡ fieldsOf k
+needed k er em en = en ∙ rw (em, er)
 
 module _ (k : Kind) (fs : List (List ℕ)) {o : StepLine} {s : Bool} (e : s ≡ sound? k fs) where
   pub as-unsound : s ≡ false → o ≡ noStep → o ≡ stepAs k fs
   unfolding stepAs
   as-unsound h d = d ∙ rw (sym e ∙ h)
 
-  module _ {b i m n : ℕ} (eb : b ≡ bytesOf k) (ei : i ≡ inputsOf k) (em : m ≡ numbersOf k) (en : n ≡ 5 + b + i + m) {c : Bool} (ec : c ≡ closed? n fs) where
+  module _ {r : Signature} {m n : ℕ} (er : r ≡ signatureOf k) (em : m ≡ countOf (r .numbers)) (en : n ≡ 5 + r .bytes + r .inputs + m) {c : Bool} (ec : c ≡ closed? n fs) where
     pub as-open : c ≡ false → o ≡ noStep → o ≡ stepAs k fs
     unfolding stepAs
-    as-open h d = d ∙ rw (sym (needed k eb ei em en), sym ec ∙ h, and-no (sound? k fs))
+    as-open h d = d ∙ rw (sym (needed k er em en), sym ec ∙ h, and-no (sound? k fs))
 
-    pub as-good : {t : Bool} {r : Region} {w : Wires} {v : Operands} {p : Space} → s ≡ true → c ≡ true
-        → t ≡ region? fs → r ≡ regionOf fs → w ≡ wiresOf (take i (drop (5 + b) fs)) → v ≡ operandsOf (take m (drop (5 + b + i) fs)) → p ≡ spaceAt fs n
-        → o ≡ assembled k t r w v p → o ≡ stepAs k fs
+    pub as-good : {t : Bool} {g : Region} {w : Wires} {v : Operands} {p : Space} → s ≡ true → c ≡ true
+        → t ≡ region? fs → g ≡ regionOf fs → w ≡ wiresOf (take (r .inputs) (drop (5 + r .bytes) fs)) → v ≡ operandsOf (take m (drop (5 + r .bytes + r .inputs) fs)) → p ≡ spaceAt fs n
+        → o ≡ assembled k t g w v p → o ≡ stepAs k fs
     unfolding stepAs
-    as-good g h x y z v u d = d ∙ rw (x, y, z, v, u, sym (needed k eb ei em en), sym ec ∙ h, sym e ∙ g, eb, ei, em)
+    as-good l h x y z v u d = d ∙ rw (x, y, z, v, u, sym (needed k er em en), sym ec ∙ h, sym e ∙ l, em, er)
 
 -- a step's line by its kind
 module _ (fs : List (List ℕ)) {t : Named} {o : StepLine} (e : t ≡ kindOf fs) where

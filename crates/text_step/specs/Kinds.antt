@@ -6,9 +6,17 @@ use lib.Dec.{leb}
 use lib.ListN.{length, getD}
 use Rattle.pixel.specs.declared.Operator.{Operator}
 use Rattle.pixel.specs.declared.Operator.the-variants as O
+use Rattle.filter.specs.declared.Map.{Map}
+use Rattle.filter.specs.declared.Map.the-variants as Map
+use Rattle.filter.specs.declared.Pair.{Pair}
+use Rattle.filter.specs.declared.Pair.the-variants as Pair
+use Rattle.filter.specs.declared.Pass.{Pass}
+use Rattle.filter.specs.declared.Pass.the-variants as Pass
 use Rattle.filter.specs.declared.Kind.{Kind}
 use Rattle.filter.specs.declared.Kind.the-variants as K
-use Rattle.filter.specs.Steps.{inputsOf, numbersOf}
+use Rattle.filter.specs.Limits.{mostNumbers}
+use Rattle.filter.specs.Signature.{signatureOf, byteFieldsOf, inputsOf, numbersOf}
+use Rattle.filter.specs.Checks.{merges?}
 use Rattle.text_field.specs.Words.{bytes}
 use Rattle.text_field.specs.Field.{same, wholeOf, byteOf, given, valueIn}
 use Rattle.text_field.specs.declared.Amount.{Amount}
@@ -23,18 +31,27 @@ operatorWord O.Out = bytes "out"
 operatorWord O.Atop = bytes "atop"
 operatorWord O.Xor = bytes "xor"
 
+abbrev pub mapWord : Map → List ℕ
+mapWord Map.Matrix = bytes "matrix"
+mapWord Map.Saturate = bytes "saturate"
+mapWord Map.Luminance = bytes "lumalpha"
+
+abbrev pub pairWord : Pair → List ℕ
+pairWord (Pair.Operator o) = operatorWord o
+pairWord Pair.Arithmetic = bytes "arith"
+
+abbrev pub passWord : Pass → List ℕ
+passWord Pass.Blur = bytes "blur"
+passWord Pass.Erode = bytes "erode"
+passWord Pass.Dilate = bytes "dilate"
+
 -- "Kinds: `flood offset blur erode dilate matrix saturate lumalpha over in out atop xor arith merge`"
 abbrev pub kindWord : Kind → List ℕ
 kindWord (K.Flood r g b) = bytes "flood"
 kindWord K.Offset = bytes "offset"
-kindWord K.Blur = bytes "blur"
-kindWord K.Erode = bytes "erode"
-kindWord K.Dilate = bytes "dilate"
-kindWord K.Matrix = bytes "matrix"
-kindWord K.Saturate = bytes "saturate"
-kindWord K.LuminanceToAlpha = bytes "lumalpha"
-kindWord (K.Composite o) = operatorWord o
-kindWord K.Arithmetic = bytes "arith"
+kindWord (K.Pass p) = passWord p
+kindWord (K.Map m) = mapWord m
+kindWord (K.Pair p) = pairWord p
 kindWord (K.Merge n) = bytes "merge"
 
 -- a kind where the word is its own
@@ -50,8 +67,9 @@ firstNamed w (k ∷ ks) = named (same w (kindWord k)) k (firstNamed w ks)
 -- all kinds: a flood of colour r, g, b, and a merge of n inputs
 abbrev pub kinds : ℕ → ℕ → ℕ → ℕ → List Kind
 kinds r g b n =
-    K.Flood r g b ∷ K.Offset ∷ K.Blur ∷ K.Erode ∷ K.Dilate ∷ K.Matrix ∷ K.Saturate ∷ K.LuminanceToAlpha
-    ∷ K.Composite O.Over ∷ K.Composite O.In ∷ K.Composite O.Out ∷ K.Composite O.Atop ∷ K.Composite O.Xor ∷ K.Arithmetic ∷ K.Merge n ∷ []
+    K.Flood r g b ∷ K.Offset ∷ K.Pass Pass.Blur ∷ K.Pass Pass.Erode ∷ K.Pass Pass.Dilate ∷ K.Map Map.Matrix ∷ K.Map Map.Saturate ∷ K.Map Map.Luminance
+    ∷ K.Pair (Pair.Operator O.Over) ∷ K.Pair (Pair.Operator O.In) ∷ K.Pair (Pair.Operator O.Out) ∷ K.Pair (Pair.Operator O.Atop) ∷ K.Pair (Pair.Operator O.Xor)
+    ∷ K.Pair Pair.Arithmetic ∷ K.Merge n ∷ []
 
 -- field i as a byte of a flood
 abbrev pub byteField : List (List ℕ) → ℕ → Amount
@@ -68,34 +86,23 @@ mergeInputs fs = cond (space? (getD fs (length fs - 1) [])) (length fs - 6) (len
 unfoldable pub kindOf : List (List ℕ) → Named
 kindOf fs = firstNamed (getD fs 0 []) (kinds (byteAt fs 5) (byteAt fs 6) (byteAt fs 7) (mergeInputs fs))
 
--- how many bytes stand before a kind's inputs and numbers ("R, G, B bytes; opacity")
-abbrev pub bytesOf : Kind → ℕ
-bytesOf (K.Flood r g b) = 3
-bytesOf K.Offset = 0
-bytesOf K.Blur = 0
-bytesOf K.Erode = 0
-bytesOf K.Dilate = 0
-bytesOf K.Matrix = 0
-bytesOf K.Saturate = 0
-bytesOf K.LuminanceToAlpha = 0
-bytesOf (K.Composite o) = 0
-bytesOf K.Arithmetic = 0
-bytesOf (K.Merge n) = 0
-
 -- how many fields a kind has: word and region, bytes, inputs, numbers
 abbrev pub fieldsOf : Kind → ℕ
-fieldsOf k = 5 + bytesOf k + inputsOf k + numbersOf k
+fieldsOf k = 5 + byteFieldsOf k + inputsOf k + numbersOf k
 
--- "a flood byte above 255 .. is 15" and "Merge without 1 to 4 inputs is 15 here"
+-- "R, G, B bytes"
+abbrev pub colour? : List (List ℕ) → Bool
+colour? fs = given (byteField fs 5) && (given (byteField fs 6) && given (byteField fs 7))
+
+-- "a flood byte above 255 .. is 15"
+abbrev pub bytes? : Kind → List (List ℕ) → Bool
+bytes? (K.Flood r g b) fs = colour? fs
+bytes? K.Offset fs = true
+bytes? (K.Pass p) fs = true
+bytes? (K.Map m) fs = true
+bytes? (K.Pair p) fs = true
+bytes? (K.Merge n) fs = true
+
+-- "Merge without 1 to 4 inputs is 15 here", and a step has room for so many numbers
 abbrev pub sound? : Kind → List (List ℕ) → Bool
-sound? (K.Flood r g b) fs = given (byteField fs 5) && (given (byteField fs 6) && given (byteField fs 7))
-sound? K.Offset fs = true
-sound? K.Blur fs = true
-sound? K.Erode fs = true
-sound? K.Dilate fs = true
-sound? K.Matrix fs = true
-sound? K.Saturate fs = true
-sound? K.LuminanceToAlpha fs = true
-sound? (K.Composite o) fs = true
-sound? K.Arithmetic fs = true
-sound? (K.Merge n) fs = leb 1 n && leb n 4
+sound? k fs = merges? (signatureOf k) && (leb (numbersOf k) mostNumbers && bytes? k fs)

@@ -9,7 +9,9 @@ use Rattle.filter.specs.declared.Input.the-variants.{Source, SourceAlpha, Layer
 use Rattle.filter.specs.declared.Wire.{Wire}
 use Rattle.filter.specs.declared.Operand.{Operand}
 use Rattle.filter.specs.declared.Kind.{Kind}
-use Rattle.filter.specs.Steps.{noWire, noOperand, blankStep, inputsOf, numbersOf}
+use Rattle.filter.specs.Limits.{mostNumbers}
+use Rattle.filter.specs.Signature.{byteFieldsOf, inputsOf, numbersOf}
+use Rattle.filter.specs.Steps.{noWire, noOperand, blankStep}
 use Rattle.text_field.specs.Words.{bytes}
 use Rattle.text_field.specs.Field.{same, wholeOf, numberOf, given, valueIn}
 use Rattle.text_field.specs.declared.Amount.{Amount}
@@ -18,7 +20,7 @@ use Rattle.text_field.specs.declared.Numeral.{Numeral}
 use Rattle.text_field.specs.declared.Numeral.the-variants.{Reads, Malformed}
 use Rattle.text_step.specs.Many.{all, padded}
 use Rattle.text_step.specs.Spaces.{spaceAt, closed?}
-use Rattle.text_step.specs.Kinds.{kindOf, bytesOf, fieldsOf, sound?}
+use Rattle.text_step.specs.Kinds.{kindOf, fieldsOf, sound?}
 use Rattle.text_step.specs.declared.Reference.{Reference}
 use Rattle.text_step.specs.declared.Reference.the-variants.{To, Nowhere}
 use Rattle.text_step.specs.declared.Named.{Named}
@@ -82,7 +84,10 @@ abbrev pub operandOf : List ℕ → Operand
 operandOf f = operandIn (numberOf f)
 
 unfoldable pub operandsOf : List (List ℕ) → Operands
-operandsOf fs = record { good = all number? fs; operands = cond (all number? fs) (padded 20 noOperand (map operandOf fs)) (replicate 20 noOperand) }
+operandsOf fs = record {
+  good = all number? fs;
+  operands = cond (all number? fs) (padded mostNumbers noOperand (map operandOf fs)) (replicate mostNumbers noOperand);
+}
 
 -- a step where every part is of the form
 abbrev pub noStep : L.StepLine
@@ -90,15 +95,17 @@ noStep = record { good = false; step = blankStep }
 
 unfoldable pub assembled : Kind → Bool → Region → Wires → Operands → Space → L.StepLine
 assembled k b r w o s =
-    cond (b && (w .good && o .good)) (record { good = true; step = record { kind = k; region = r; inputs = w .wires; numbers = o .operands; space = s } }) noStep
+    cond (b && (w .good && o .good))
+    (record { good = true; step = record { kind = k; region = r; inputs = w .wires; numbers = o .operands; space = s } })
+    noStep
 
 -- the line of a kind: five fields, the kind's bytes, inputs and numbers, and no more than a working space
 unfoldable pub stepAs : Kind → List (List ℕ) → L.StepLine
 stepAs k fs =
     cond (sound? k fs && closed? (fieldsOf k) fs)
     (assembled k (region? fs) (regionOf fs)
-    (wiresOf (take (inputsOf k) (drop (5 + bytesOf k) fs)))
-    (operandsOf (take (numbersOf k) (drop (5 + bytesOf k + inputsOf k) fs)))
+    (wiresOf (take (inputsOf k) (drop (5 + byteFieldsOf k) fs)))
+    (operandsOf (take (numbersOf k) (drop (5 + byteFieldsOf k + inputsOf k) fs)))
     (spaceAt fs (fieldsOf k)))
     noStep
 

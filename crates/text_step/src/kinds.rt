@@ -2,6 +2,12 @@
 use super::Named;
 use super::spaces::is_space;
 use filter::Kind;
+use filter::Map;
+use filter::Pair;
+use filter::Pass;
+use filter::Sheet;
+use filter::Signature;
+use filter::kinds::number_count;
 use pixel::Operator;
 use text_field::lines::equals;
 use text_field::lines::field;
@@ -11,11 +17,11 @@ use text_field::wholes::whole;
 use window::both;
 use window::less;
 ghost use mathlib.Core.Path.{_≡_};
-ghost use mathlib.Core.Bool.{_&&_};
 ghost use lib.ListN.{length};
+ghost use Rattle.filter.specs.Signature.{signatureOf};
 ghost use Rattle.text_field.specs.Split.{split};
 ghost use Rattle.text_field.specs.Field.{same, given};
-ghost use Rattle.text_step.specs.Kinds.{named, kinds, firstNamed, kindOf, bytesOf, byteField, byteAt, mergeInputs, sound?};
+ghost use Rattle.text_step.specs.Kinds.{named, kinds, firstNamed, kindOf, byteField, byteAt, mergeInputs, colour?, bytes?, sound?};
 
 // The kind where the field is its word.
 fn or(f: &[u8], word: &[u8], kind: Kind, other: Named) -> Named
@@ -33,18 +39,18 @@ fn kind_named(f: &[u8], r: u8, g: u8, b: u8, inputs: usize) -> Named
 {
     let k = Named::Unknown;
     let k = or(f, b"merge", Kind::Merge(inputs), k);
-    let k = or(f, b"arith", Kind::Arithmetic, k);
-    let k = or(f, b"xor", Kind::Composite(Operator::Xor), k);
-    let k = or(f, b"atop", Kind::Composite(Operator::Atop), k);
-    let k = or(f, b"out", Kind::Composite(Operator::Out), k);
-    let k = or(f, b"in", Kind::Composite(Operator::In), k);
-    let k = or(f, b"over", Kind::Composite(Operator::Over), k);
-    let k = or(f, b"lumalpha", Kind::LuminanceToAlpha, k);
-    let k = or(f, b"saturate", Kind::Saturate, k);
-    let k = or(f, b"matrix", Kind::Matrix, k);
-    let k = or(f, b"dilate", Kind::Dilate, k);
-    let k = or(f, b"erode", Kind::Erode, k);
-    let k = or(f, b"blur", Kind::Blur, k);
+    let k = or(f, b"arith", Kind::Pair(Pair::Arithmetic), k);
+    let k = or(f, b"xor", Kind::Pair(Pair::Operator(Operator::Xor)), k);
+    let k = or(f, b"atop", Kind::Pair(Pair::Operator(Operator::Atop)), k);
+    let k = or(f, b"out", Kind::Pair(Pair::Operator(Operator::Out)), k);
+    let k = or(f, b"in", Kind::Pair(Pair::Operator(Operator::In)), k);
+    let k = or(f, b"over", Kind::Pair(Pair::Operator(Operator::Over)), k);
+    let k = or(f, b"lumalpha", Kind::Map(Map::Luminance), k);
+    let k = or(f, b"saturate", Kind::Map(Map::Saturate), k);
+    let k = or(f, b"matrix", Kind::Map(Map::Matrix), k);
+    let k = or(f, b"dilate", Kind::Pass(Pass::Dilate), k);
+    let k = or(f, b"erode", Kind::Pass(Pass::Erode), k);
+    let k = or(f, b"blur", Kind::Pass(Pass::Blur), k);
     let k = or(f, b"offset", Kind::Offset, k);
     let k = or(f, b"flood", Kind::Flood(r, g, b), k);
     k
@@ -88,26 +94,9 @@ pub fn kind_of(line: &[u8], n: usize) -> Named
     )
 }
 
-pub fn byte_count(kind: Kind) -> usize
-    ensures { λ o. ⌜ o ≡ bytesOf kind ⌝ }
-{
-    match kind {
-        Kind::Flood(_, _, _) => 3,
-        Kind::Offset => 0,
-        Kind::Blur => 0,
-        Kind::Erode => 0,
-        Kind::Dilate => 0,
-        Kind::Matrix => 0,
-        Kind::Saturate => 0,
-        Kind::LuminanceToAlpha => 0,
-        Kind::Composite(_) => 0,
-        Kind::Arithmetic => 0,
-        Kind::Merge(_) => 0,
-    }
-}
-
-fn bytes_given(line: &[u8]) -> bool
-    ensures { λ o. ⌜ o ≡ (given (byteField (split 9 (now (line .entry))) 5) && (given (byteField (split 9 (now (line .entry))) 6) && given (byteField (split 9 (now (line .entry))) 7))) ⌝ }
+// The colour of a flood.
+fn colour_given(line: &[u8]) -> bool
+    ensures { λ o. ⌜ o ≡ colour? (split 9 (now (line .entry))) ⌝ }
 {
     both(
         byte_given(line, 5),
@@ -115,21 +104,29 @@ fn bytes_given(line: &[u8]) -> bool
     )
 }
 
-// A flood has three bytes, and a merge 1 to 4 inputs.
-pub fn is_sound(kind: Kind, line: &[u8]) -> bool
-    ensures { λ o. ⌜ o ≡ sound? kind (split 9 (now (line .entry))) ⌝ }
+fn bytes_given(kind: Kind, line: &[u8]) -> bool
+    ensures { λ o. ⌜ o ≡ bytes? kind (split 9 (now (line .entry))) ⌝ }
 {
     match kind {
-        Kind::Flood(_, _, _) => bytes_given(line),
+        Kind::Flood(_, _, _) => colour_given(line),
         Kind::Offset => true,
-        Kind::Blur => true,
-        Kind::Erode => true,
-        Kind::Dilate => true,
-        Kind::Matrix => true,
-        Kind::Saturate => true,
-        Kind::LuminanceToAlpha => true,
-        Kind::Composite(_) => true,
-        Kind::Arithmetic => true,
-        Kind::Merge(n) => both(1 <= n, n <= 4),
+        Kind::Pass(_) => true,
+        Kind::Map(_) => true,
+        Kind::Pair(_) => true,
+        Kind::Merge(_) => true,
     }
+}
+
+// A merge has 1 to 4 inputs, a step has room for the numbers, and a flood has three bytes.
+pub fn is_sound(kind: Kind, row: Signature, line: &[u8]) -> bool
+    requires { ⌜ row ≡ signatureOf kind ⌝ }
+    ensures { λ o. ⌜ o ≡ sound? kind (split 9 (now (line .entry))) ⌝ }
+{
+    both(
+        both(row.least <= row.inputs, row.inputs <= 4),
+        both(
+            number_count(row.numbers) <= Sheet::NUMBERS,
+            bytes_given(kind, line),
+        ),
+    )
 }

@@ -6,6 +6,7 @@ pub mod step_lines;
 use filter::Input;
 use filter::Kind;
 use filter::Operand;
+use filter::Sheet;
 use filter::Step;
 use filter::Wire;
 
@@ -30,7 +31,7 @@ pub struct Wires {
 // The numbers of a step line, and whether each is of the form.
 pub struct Operands {
     pub good: bool,
-    pub operands: [Operand; 20],
+    pub operands: [Operand; Sheet::NUMBERS],
 }
 
 // The step of a line, and a blank one where the line is not of the form.

@@ -4,8 +4,9 @@ use text_field::lines::equals;
 use text_field::lines::field;
 use window::both;
 ghost use mathlib.Core.Path.{_≡_};
-ghost use Prim.Native.Nat.{_≤_};
+ghost use Prim.Native.Nat.{_+_, _≤_};
 ghost use lib.ListN.{length};
+ghost use Rattle.filter.specs.Limits.{mostNumbers};
 ghost use Rattle.text_field.specs.Split.{split};
 ghost use Rattle.text_step.specs.Spaces.{space?, spaceAt, closed?};
 
@@ -31,7 +32,7 @@ pub fn space_at(line: &[u8], i: usize) -> Space
 
 // Whether a line of n fields has as many as it needs, or a working space more.
 pub fn is_closed(line: &[u8], n: usize, needed: usize) -> bool
-    requires { ⌜ (n ≡ length (split 9 (now line))) × (needed ≤ 32) ⌝ }
+    requires { ⌜ (n ≡ length (split 9 (now line))) × (needed ≤ 12 + mostNumbers) ⌝ }
     ensures { λ o. ⌜ o ≡ closed? needed (split 9 (now (line .entry))) ⌝ }
 {
     if n == needed {

@@ -4,7 +4,6 @@ use super::Operands;
 use super::Reference;
 use super::StepLine;
 use super::Wires;
-use super::kinds::byte_count;
 use super::kinds::is_sound;
 use super::kinds::kind_of;
 use super::spaces::is_closed;
@@ -13,12 +12,13 @@ use filter::Input;
 use filter::Kind;
 use filter::Operand;
 use filter::Region;
+use filter::Sheet;
 use filter::Step;
 use filter::Wire;
+use filter::kinds::number_count;
+use filter::kinds::signature_of;
 use number::Number;
 use pixel::Space;
-use plan::steps::input_count;
-use plan::steps::number_count;
 use text_field::Amount;
 use text_field::Numeral;
 use text_field::decimals::number_of;
@@ -32,6 +32,7 @@ use window::both;
 ghost use mathlib.Core.Path.{_≡_};
 ghost use Prim.Native.Nat.{_+_, _≤_};
 ghost use lib.ListN.{length, take, drop};
+ghost use Rattle.filter.specs.Limits.{mostNumbers};
 ghost use Rattle.text_field.specs.Split.{split};
 ghost use Rattle.text_field.specs.Field.{given};
 ghost use Rattle.text_step.specs.StepLine.{wholeField, wholeAt, region?, regionOf, layerOf, inputOf, wiresOf, operandsOf, noStep, assembled, stepAs, stepOf};
@@ -123,13 +124,13 @@ fn wires_of(line: &[u8], at: usize, n: usize) -> Wires
 
 // The numbers of n fields from the field at on.
 fn operands_of(line: &[u8], at: usize, n: usize) -> Operands
-    requires { ⌜ (n ≤ 20) × (at + n ≤ length (split 9 (now line))) ⌝ }
+    requires { ⌜ (n ≤ mostNumbers) × (at + n ≤ length (split 9 (now line))) ⌝ }
     ensures { λ r. ⌜ r ≡ operandsOf (take n (drop at (split 9 (now (line .entry))))) ⌝ }
 {
     let zero = Operand {
         number: Number::Decimal(0),
     };
-    let mut operands = [zero; 20];
+    let mut operands = [zero; Sheet::NUMBERS];
     let mut i = 0;
     while i < n {
         match number_of(field(line, at + i)) {
@@ -139,7 +140,7 @@ fn operands_of(line: &[u8], at: usize, n: usize) -> Operands
             Numeral::Malformed => {
                 return Operands {
                     good: false,
-                    operands: [zero; 20],
+                    operands: [zero; Sheet::NUMBERS],
                 };
             }
         }
@@ -192,12 +193,13 @@ fn step_as(line: &[u8], kind: Kind, n: usize) -> StepLine
     requires { ⌜ n ≡ length (split 9 (now line)) ⌝ }
     ensures { λ o. ⌜ o ≡ stepAs kind (split 9 (now (line .entry))) ⌝ }
 {
-    if !is_sound(kind, line) {
+    let row = signature_of(kind);
+    if !is_sound(kind, row, line) {
         return no_step();
     }
-    let bytes = byte_count(kind);
-    let inputs = input_count(kind);
-    let numbers = number_count(kind);
+    let bytes = row.bytes;
+    let inputs = row.inputs;
+    let numbers = number_count(row.numbers);
     let fields = 5 + bytes + inputs + numbers;
     if !is_closed(line, n, fields) {
         return no_step();

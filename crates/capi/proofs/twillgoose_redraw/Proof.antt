@@ -1,6 +1,5 @@
 -- `capi::twillgoose_redraw` meets its contract: number, place and buffers are those of the answer by value. Assumes nothing.
-use mathlib.Core.Path.{refl, ap}
-use Rattle.render.specs.Promise.{drawnBytes, worked}
+use mathlib.Core.Path.{ap}
 use Rattle.capi.specs.declared.Redrawing.{Redrawing}
 use Rattle.capi.specs.Lines.{replied, numberFor, placeFor}
 use borrow.Author.Needs.{needs}
@@ -17,10 +16,10 @@ same-length-2 : tie.Need-same-length-2
 same-length-2 c = search needs
 
 returns : tie.Need-returns
-unfolding drawnBytes worked replied numberFor placeFor
+unfolding replied numberFor placeFor
 returns c =
     let r = c .before .before .before .before .call-lines .ensures in
-    (ap (λ (x : Redrawing). x .number) (r .0), (ap (λ (x : Redrawing). x .place) (r .0), (ap (λ (x : Redrawing). x .count) (r .0), (r .1 .0, (r .1 .1 .0, ((λ t. r .1 .1 .1 .0 t _ refl), r .1 .1 .1 .1))))))
+    (ap (λ (x : Redrawing). x .number) (r .0), (ap (λ (x : Redrawing). x .place) (r .0), (ap (λ (x : Redrawing). x .count) (r .0), r .1)))
 
 pub twillgoose-redraw-spec : {M : Type 1} → statement M
 twillgoose-redraw-spec = tie.close (tie.spec call-lines-requires same-length same-length-2 returns)

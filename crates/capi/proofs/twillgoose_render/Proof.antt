@@ -1,6 +1,5 @@
 -- `capi::twillgoose_render` meets its contract: number, place and buffers are those of the answer by value. Assumes nothing.
-use mathlib.Core.Path.{refl, ap}
-use Rattle.render.specs.Promise.{drawnBytes}
+use mathlib.Core.Path.{ap}
 use Rattle.capi.specs.declared.Redrawing.{Redrawing}
 use Rattle.capi.specs.Lines.{replied, numberFor, placeFor}
 use borrow.Author.Needs.{needs}
@@ -17,7 +16,7 @@ same-length-2 : tie.Need-same-length-2
 same-length-2 c = search needs
 
 returns : tie.Need-returns
-unfolding drawnBytes replied numberFor placeFor
+unfolding replied numberFor placeFor
 returns c =
     let r = c .before .before .before .before .call-lines .ensures in
     (ap (λ (x : Redrawing). x .number) (r .0), (ap (λ (x : Redrawing). x .place) (r .0), (r .1 .0, (r .1 .1 .0, r .1 .1 .1 .1))))

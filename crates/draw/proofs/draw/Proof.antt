@@ -19,10 +19,13 @@ returns c = search needs
 slice-aggregate-none : tie.Need-slice-aggregate-none
 slice-aggregate-none c = search needs
 
-draw-primitive-requires : tie.Need-draw-primitive-requires
-draw-primitive-requires c κs =
+draw-shape-requires : tie.Need-draw-shape-requires
+draw-shape-requires c κs =
     let s = c .before .before .before .before .before .before .before in
-    (record { sized = s .pre .0; tabled = record { good = λ l. absurd (omega arith) }; valid = s .pre .2; earlier = s .pre .3; bounded = s .pre .4 }, s .pre .1, s .pre .5)
+    let v = s .pre .1 .0 in (
+      (record { readable = record { sized = s .pre .0 .0; tabled = record { good = λ l. absurd (omega arith) } }; valid = v .0 }, s .pre .0 .1),
+      (v .1, v .2, s .pre .1 .1),
+    )
 
 same-length-3 : tie.Need-same-length-3
 same-length-3 c = search needs
@@ -42,7 +45,7 @@ draw-spec =
     same-length-2
     returns
     slice-aggregate-none
-    draw-primitive-requires
+    draw-shape-requires
     same-length-3
     same-length-4
     returns-2)

@@ -19,20 +19,20 @@ use Rattle.draw_blur.proofs.blur_across.Statement.{statement}
 use Rattle.draw_blur.proofs.blur_across.Tie as tie
 
 abbrev Inv-loop : tie.InvT-loop
-Inv-loop workspace source scratch₀ w h n lens pairs input d left right top bottom width reach span places skip tile₀ sums₀ y₀ scratch tile sums y =
+Inv-loop workspace source scratch₀ context pairs input d left right top bottom width reach span places skip tile₀ sums₀ y₀ scratch tile sums y =
     (top ≤ y) × (y ≤ bottom) × (length tile ≡ 64 * longestSide) × (length sums ≡ 32) × (length scratch ≡ length scratch₀)
-    × Strip (acrossOf (blurs d) w (shown lens w h source workspace input)) 0 left right top y scratch
+    × Strip (acrossOf (blurs d) (context .w) (shown context source workspace input)) 0 left right top y scratch
 
 abbrev μ-loop : tie.MeasureT-loop
-μ-loop workspace source scratch₀ w h n lens pairs input d left right top bottom width reach span places skip tile₀ sums₀ y₀ scratch tile sums y = bottom - y
+μ-loop workspace source scratch₀ context pairs input d left right top bottom width reach span places skip tile₀ sums₀ y₀ scratch tile sums y = bottom - y
 
 -- what holds of the span
 module _ (g : tie.After-reached Inv-loop μ-loop) where
   abbrev s : tie.Start Inv-loop μ-loop
   s = g .before .before .before .before .before .before
 
-  span : (g .reached .result .from ≤ s .args .strip .left) × (s .args .strip .right ≤ g .reached .result .to) × (g .reached .result .to ≤ s .args .w)
-  span = reached-in _ _ _ _ _ _ _ (g .reached .ensures) (s .pre .1 .0) (s .pre .1 .1)
+  span : (g .reached .result .from ≤ s .args .strip .left) × (s .args .strip .right ≤ g .reached .result .to) × (g .reached .result .to ≤ s .args .context .w)
+  span = reached-in _ _ _ _ _ _ _ (g .reached .ensures) (s .pre .1 .0 .some-wide) (s .pre .1 .0 .wide)
 
 -- what holds of the rows of a turn
 module _ (g : tie.After-lesser Inv-loop μ-loop) where
@@ -52,10 +52,10 @@ module _ (g : tie.After-lesser Inv-loop μ-loop) where
   fits = omega (arith, g .lesser .ensures, g .before .loop-test .taken)
 
   room : 4 * ((y - t .args .strip .top) * (t .args .strip .right - t .args .strip .left) + g .lesser .result * (t .args .strip .right - t .args .strip .left)) ≤ length (g .before .before .loop .scratch)
-  room = omega (arith, t .pre .1 .4, g .before .before .loop .inv .4, rows-room y (t .args .strip .top) (t .args .strip .bottom) (g .lesser .result) (t .args .strip .right - t .args .strip .left) (g .before .before .loop .inv .0) fits)
+  room = omega (arith, t .pre .1 .1, g .before .before .loop .inv .4, rows-room y (t .args .strip .top) (t .args .strip .bottom) (g .lesser .result) (t .args .strip .right - t .args .strip .left) (g .before .before .loop .inv .0) fits)
 
   small : (y - t .args .strip .top) * (t .args .strip .right - t .args .strip .left) ≤ mostPixels
-  small = omega (arith, strip-area (t .args .w) (t .args .h) (t .args .strip .left) (t .args .strip .right) (t .args .strip .top) y (t .pre .1 .1) (omega (arith, fits, t .pre .1 .3)), area-le (t .args .w) (t .args .h) (t .pre .0 .0 .wide) (t .pre .0 .0 .high))
+  small = omega (arith, strip-area (t .args .context .w) (t .args .context .h) (t .args .strip .left) (t .args .strip .right) (t .args .strip .top) y (t .pre .1 .0 .wide) (omega (arith, fits, t .pre .1 .0 .high)), area-le (t .args .context .w) (t .args .context .h) (t .pre .0 .0 .sized .wide) (t .pre .0 .0 .sized .high))
 
 sub-width : tie.Need-sub-width Inv-loop μ-loop
 sub-width c = search needs
@@ -84,14 +84,14 @@ sub-lesser c = search needs
 lesser-requires : tie.Need-lesser-requires Inv-loop μ-loop
 lesser-requires c κs = search needs
 
-slice-aggregate-spread-rows : tie.Need-slice-aggregate-spread-rows Inv-loop μ-loop
-slice-aggregate-spread-rows c = search needs
+slice-aggregate-deal-rows : tie.Need-slice-aggregate-deal-rows Inv-loop μ-loop
+slice-aggregate-deal-rows c = search needs
 
-spread-rows-requires : tie.Need-spread-rows-requires Inv-loop μ-loop
-spread-rows-requires c κs =
+deal-rows-requires : tie.Need-deal-rows-requires Inv-loop μ-loop
+deal-rows-requires c κs =
     let g = c .before in
     let i = span (r g) in
-    ((t g .pre .0 .0, t g .pre .0 .1, omega (arith, fits g, t g .pre .1 .3), few g, t g .pre .0 .3), (omega (arith, i .0, i .1, t g .pre .1 .0), i .2, g .before .before .loop .inv .2))
+    ((t g .pre .0 .0, t g .pre .0 .1, omega (arith, fits g, t g .pre .1 .0 .high), few g), (omega (arith, i .0, i .1, t g .pre .1 .0 .some-wide), i .2, g .before .before .loop .inv .2))
 
 slice-aggregate-pass-lines : tie.Need-slice-aggregate-pass-lines Inv-loop μ-loop
 slice-aggregate-pass-lines c = search needs
@@ -103,7 +103,7 @@ pass-lines-requires : tie.Need-pass-lines-requires Inv-loop μ-loop
 pass-lines-requires c κs =
     let g = c .before .before .before .before .before in
     let i = span (r g) in
-    let w = t g .pre .0 .0 .wide in
+    let w = t g .pre .0 .0 .sized .wide in
     (omega arith, omega (arith, i .2, w), omega (arith, g .before .before .loop .inv .3), omega (arith, i .2, w), t g .pre .0 .2)
 
 sub-at : tie.Need-sub-at Inv-loop μ-loop
@@ -120,8 +120,8 @@ add-gather-rows c =
     let p = c .before .before .before in
     let g = p .before .before .before .before .before .before in
     let i = span (r g) in
-    let w = t g .pre .0 .0 .wide in
-    let l = t g .pre .1 .0 in
+    let w = t g .pre .0 .0 .sized .wide in
+    let l = t g .pre .1 .0 .some-wide in
     ⊎-elim (λ e. omega (arith, e, i .1, i .2, w, l)) (λ e. omega (arith, e, i .1, i .2, w, l)) (p .pass-lines .ensures .1)
 
 gather-rows-requires : tie.Need-gather-rows-requires Inv-loop μ-loop
@@ -129,13 +129,13 @@ gather-rows-requires c κs =
     let p = c .before .before .before .before in
     let g = p .before .before .before .before .before .before in
     let i = span (r g) in
-    let w = t g .pre .0 .0 .wide in
+    let w = t g .pre .0 .0 .sized .wide in
     (⊎-elim (λ e. omega (arith, e, i .0, i .1, i .2, w)) (λ e. omega (arith, e, i .0, i .1, i .2, w)) (p .pass-lines .ensures .1), few g, room g)
 
 add-y : tie.Need-add-y Inv-loop μ-loop
 add-y c =
     let g = c .before .before .before .before .before .before .before .before .before .before .before .before .before in
-    omega (arith, fits g, t g .pre .1 .3, t g .pre .0 .0 .high)
+    omega (arith, fits g, t g .pre .1 .0 .high, t g .pre .0 .0 .sized .high)
 
 loop-less : tie.Need-loop-less Inv-loop μ-loop
 loop-less c = search needs
@@ -149,7 +149,7 @@ loop-again c =
     let L = g .before .before .loop in
     let a = t g .args in
     let B = blurs-banded (a .d) _ (r g .before .spread-of .ensures .0) in
-    let K = lanes-worked _ _ _ _ _ _ (shown-blank (a .lens) (a .w) (a .h) (a .source .now) (a .workspace .now) (a .input)) B _ _ _ _ _ _ _ _ _ (r g .reached .ensures) (t g .pre .1 .1) (few g) (q .spread-rows .ensures .lanes) (p .pass-lines .ensures .0) in (
+    let K = lanes-worked _ _ _ _ _ _ (shown-blank (a .context) (a .source .now) (a .workspace .now) (a .input)) B _ _ _ _ _ _ _ _ _ (r g .reached .ensures) (t g .pre .1 .0 .wide) (few g) (q .deal-rows .ensures .lanes) (p .pass-lines .ensures .0) in (
       omega (arith, L .inv .0),
       fits g,
       search needs,
@@ -182,8 +182,8 @@ blur-across-spec =
     loop-holds
     sub-lesser
     lesser-requires
-    slice-aggregate-spread-rows
-    spread-rows-requires
+    slice-aggregate-deal-rows
+    deal-rows-requires
     slice-aggregate-pass-lines
     slice-aggregate-pass-lines-2
     pass-lines-requires

@@ -18,12 +18,12 @@ use Rattle.draw_morph.proofs.extreme_across.Statement.{statement}
 use Rattle.draw_morph.proofs.extreme_across.Tie as tie
 
 abbrev Inv-loop : tie.InvT-loop
-Inv-loop op workspace source scratch₀ w h n lens pairs input k left right top bottom width from to line₀ y₀ scratch line y =
+Inv-loop op workspace source scratch₀ context pairs input back ahead left right top bottom width from to line₀ y₀ scratch line y =
     (top ≤ y) × (y ≤ bottom) × (length line ≡ 2 * longestRow + 512) × (length scratch ≡ length scratch₀)
-    × Strip (acrossOf (extremes op (k .back) (k .ahead)) w (shown lens w h source workspace input)) 0 left right top y scratch
+    × Strip (acrossOf (extremes op back ahead) (context .w) (shown context source workspace input)) 0 left right top y scratch
 
 abbrev μ-loop : tie.MeasureT-loop
-μ-loop op workspace source scratch₀ w h n lens pairs input k left right top bottom width from to line₀ y₀ scratch line y = bottom - y
+μ-loop op workspace source scratch₀ context pairs input back ahead left right top bottom width from to line₀ y₀ scratch line y = bottom - y
 
 sub-width : tie.Need-sub-width Inv-loop μ-loop
 sub-width c = search needs
@@ -41,7 +41,7 @@ load-requires : tie.Need-load-requires Inv-loop μ-loop
 load-requires c κs =
     let s = c .before .before .before .before .before .before .before .before in
     let R = c .before .before .before .reached .ensures in
-    ((s .pre .0 .0, s .pre .0 .4), (omega arith, omega arith, omega arith, s .pre .0 .1, omega (arith, s .pre .0 .0 .wide)))
+    ((s .pre .0 .0, record { high = omega arith; order = omega arith; wide = omega arith }), (s .pre .0 .1, omega (arith, s .pre .0 .0 .sized .wide)))
 
 sub-at : tie.Need-sub-at Inv-loop μ-loop
 sub-at c = search needs
@@ -68,7 +68,7 @@ extreme-row-requires c κs =
     let R = c .before .before .before .before .before .before .before .reached .ensures in
     let L = c .before .before .before .before .before .before .loop in
     let t = s .args .strip in (
-      (omega (arith, c .before .before .before .load .ensures .long, L .inv .2), omega arith, omega (arith, s .pre .0 .0 .wide), s .pre .0 .2, s .pre .0 .3),
+      (omega (arith, c .before .before .before .load .ensures .long, L .inv .2), omega arith, omega (arith, s .pre .0 .0 .sized .wide), s .pre .0 .2, s .pre .0 .3),
       (omega arith, omega (arith, row-room (L .y) (t .top) (t .bottom) (t .right - t .left) (omega arith) (omega arith), L .inv .3)),
     )
 
@@ -91,7 +91,7 @@ loop-again c =
       search needs,
       P .long ∙ L .inv .3,
       strip-painted _ _ _ _ _ _ _ _ _ (L .inv .0) refl (L .inv .4) P
-          (λ x l m. band-row _ _ _ _ _ _ (shown-blank (a .lens) (a .w) (a .h) (a .source .now) (a .workspace .now) (a .input)) (extremes-banded (a .op) (a .k .back) (a .k .ahead)) _ _ _ _ _ _ _ R (s .pre .1 .1) G x _ l m),
+          (λ x l m. band-row _ _ _ _ _ _ (shown-blank (a .context) (a .source .now) (a .workspace .now) (a .input)) (extremes-banded (a .op) (a .back) (a .ahead)) _ _ _ _ _ _ _ R (s .pre .1 .0 .wide) G x _ l m),
     )
 
 same-length : tie.Need-same-length Inv-loop μ-loop

@@ -59,10 +59,10 @@ use Rattle.lent.proofs.Tail.{tail}
 use Rattle.lent.proofs.Elem.{elem-look, elem-shut}
 use Rattle.lent.proofs.StepSize.{stepSize, size-lit, before}
 use Rattle.lent.proofs.SaysAnd.{says-two}
-use Rattle.plan.proofs.checks.check_next as check-next
-use Rattle.plan.proofs.checks.check_next.Symbol as check-next-def
-use Rattle.plan.proofs.checks.check_next.Symbol.{name as #plan·check-next}
-use Rattle.plan.proofs.checks.check_next.Met as check-next-thm
+use Rattle.checks.proofs.checks.check_next as check-next
+use Rattle.checks.proofs.checks.check_next.Symbol as check-next-def
+use Rattle.checks.proofs.checks.check_next.Symbol.{name as #checks·check-next}
+use Rattle.checks.proofs.checks.check_next.Met as check-next-thm
 use Rattle.layers.proofs.Answered.{Answered, answered-none, answered-more}
 use Rattle.layers.proofs.check_steps.Key.{name as #layers·check-steps}
 use Rattle.layers.proofs.check_steps as check′
@@ -169,7 +169,7 @@ module _ {M : Type 1} (𝓤 : URA M) (H : Heap 𝓤) (A : Atoms 𝓤) (W : Given
         owned ! usize (Is usize) (uint-makes 𝓤 H A W w64) h _ (refl, gh) $ fjoin ! $ owned ! usize (Is usize) (uint-makes 𝓤 H A W w64) w _ (refl, gw) $ fjoin ! $
         owned ! Q.the-row (Is Q.the-row) (EL.makes Q.the-type Q′.the-plain 𝓤 H A) a _ ga $ fjoin ! $ nothing ! $ join ! $ frame ! $ done !
 
-  module _ (𝓣 : Tables 𝓤 H) (fm : FmC 𝓤 H (W .laws) (𝓣 .C)) (known : Triple 𝓤 (𝓣 .C #plan·check-next) (Check 𝓤 H A mem run)) (gs : Room T.the-row (length ys)) (gc : count < 2 ^ 64) (enough : count ≤ length ys) where
+  module _ (𝓣 : Tables 𝓤 H) (fm : FmC 𝓤 H (W .laws) (𝓣 .C)) (known : Triple 𝓤 (𝓣 .C #checks·check-next) (Check 𝓤 H A mem run)) (gs : Room T.the-row (length ys)) (gc : count < 2 ^ 64) (enough : count ≤ length ys) where
     abbrev C : Calls 𝓤 H
     C = 𝓣 .C
 
@@ -267,13 +267,13 @@ module _ {M : Type 1} (𝓤 : URA M) (H : Heap 𝓤) (A : Atoms 𝓤) (W : Given
         begun l₀ l₁ l₂ l₃ l₄ l₅ l₆ l₇ l₈ l₉ l₁₀)))))))))))
 
 module _ {M : Type 1} (𝓤 : URA M) (H : Heap 𝓤) (A : Atoms 𝓤) (W : Given 𝓤 H A) (mem : Memory → SProp 𝓤) (run : Routine → Fun 𝓤) where
-  walks : (𝓣 : Tables 𝓤 H) → Triple 𝓤 (𝓣 .C #plan·check-next) (Check 𝓤 H A mem run) → Walks 𝓤 H A check′.ended stayed (WpFn 𝓤 H (𝓣 .C) (𝓣 .Λ) code.function) (check′.clauses 𝓤 H A mem run)
+  walks : (𝓣 : Tables 𝓤 H) → Triple 𝓤 (𝓣 .C #checks·check-next) (Check 𝓤 H A mem run) → Walks 𝓤 H A check′.ended stayed (WpFn 𝓤 H (𝓣 .C) (𝓣 .Λ) code.function) (check′.clauses 𝓤 H A mem run)
   walks 𝓣 known = walked 𝓤 H A check′.ended stayed (check′.clauses 𝓤 H A mem run) (WpFn 𝓤 H (𝓣 .C) (𝓣 .Λ) code.function) (λ κs. (uint-vals w64, (uint-vals w64, (slice-vals, (uint-vals w64, tt)))))
       (λ κs. (uint-tells w64, (uint-tells w64, (shr-slice-tells (named 0) (κs .0) T.the-row, (uint-tells w64, tt)))))
       (λ κs qs bounds a g are. needs 𝓤 (a .1 .1 .1 .0 ≤ length (now (a .1 .1 .0))) _
       (walk 𝓤 H A W mem run (κs .0) (qs .0) (a .1 .1 .0 .ptr .0) (a .1 .1 .0 .ptr .1) (a .1 .1 .0 .name) (a .0) (a .1 .0) (are .0 .1) (are .1 .0 .1) (a .1 .1 .0 .now) (a .1 .1 .1 .0) 𝓣 (fmOf 𝓤 H (W .laws) 𝓣) known (are .1 .1 .0 .0 .1) (are .1 .1 .1 .0 .1)))
 
-meets : {M : Type 1} (𝓤 : URA M) (H : Heap 𝓤) (A : Atoms 𝓤) → Given 𝓤 H A → (mem : Memory → SProp 𝓤) (run : Routine → Fun 𝓤) (𝓣 : Tables 𝓤 H) → Triple 𝓤 (𝓣 .C #plan·check-next) (Check 𝓤 H A mem run)
+meets : {M : Type 1} (𝓤 : URA M) (H : Heap 𝓤) (A : Atoms 𝓤) → Given 𝓤 H A → (mem : Memory → SProp 𝓤) (run : Routine → Fun 𝓤) (𝓣 : Tables 𝓤 H) → Triple 𝓤 (𝓣 .C #checks·check-next) (Check 𝓤 H A mem run)
     → Meets 𝓤 H A check′.signature (WpFn 𝓤 H (𝓣 .C) (𝓣 .Λ) code.function) (check′.spec 𝓤 H A mem run)
 meets 𝓤 H A W mem run 𝓣 known = walk-meets 𝓤 H A check′.ended stayed W (goes-none 𝓤 H A W 1 (λ _. usize) yes (λ κs x f. refl), (goes-none 𝓤 H A W 1 (λ _. usize) yes (λ κs x f. refl), (goes-none-slice 𝓤 H A W 1 (0 ∷ []) tt (plain (λ _. T.the-row)) yes, (goes-none 𝓤 H A W 1 (λ _. usize) yes (λ κs x f. refl), tt))))
     (check′.clauses 𝓤 H A mem run) (WpFn 𝓤 H (𝓣 .C) (𝓣 .Λ) code.function) (WpFn-mono 𝓤 H (W .laws) 𝓣 code.function) (walks 𝓤 H A W mem run 𝓣 known)
@@ -284,4 +284,4 @@ check-steps-spec 𝓤 H 𝓜 𝓖 𝓡 =
     entered 𝓤 H (tripleOf 𝓤 H (𝓖 .A) check′.signature (check′.spec 𝓤 H (𝓖 .A) (𝓜 .mem) (𝓡 .run)))
     (tables 𝓤 H 𝓜 𝓡 code.env .C) (tables 𝓤 H 𝓜 𝓡 code.env .Λ) #layers·check-steps code.function (code.unfolded 𝓤 H 𝓜 𝓡)
     (meets 𝓤 H (𝓖 .A) (givenOf 𝓤 H 𝓜 𝓖) (𝓜 .mem) (𝓡 .run) (tablesOf 𝓤 H 𝓜 (tables 𝓤 H 𝓜 𝓡 code.env))
-    (cited 𝓤 H (Check 𝓤 H (𝓖 .A) (𝓜 .mem) (𝓡 .run)) 𝓜 𝓡 code.env #plan·check-next check-next-def.routine code.calls-plan·checks·check-next (check-next-thm.met 𝓤 H 𝓜 𝓖 𝓡)))
+    (cited 𝓤 H (Check 𝓤 H (𝓖 .A) (𝓜 .mem) (𝓡 .run)) 𝓜 𝓡 code.env #checks·check-next check-next-def.routine code.calls-checks·checks·check-next (check-next-thm.met 𝓤 H 𝓜 𝓖 𝓡)))

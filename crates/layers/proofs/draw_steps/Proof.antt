@@ -62,13 +62,14 @@ use Rattle.lent.proofs.Tail.{tail}
 use Rattle.lent.proofs.Elem.{elem-look, elem-shut}
 use Rattle.lent.proofs.Again.{LentAgain, lends-again, comes-back}
 use Rattle.lent.proofs.StepSize.{stepSize, size-lit, before}
-use Rattle.plan.specs.declared.SoFar.{SoFar}
-use Rattle.plan.proofs.SoFar as D
-use Rattle.plan.proofs.SoFar.Laws as D′
-use Rattle.plan.proofs.progress.none_so_far as none-so-far
-use Rattle.plan.proofs.progress.none_so_far.Symbol as none-so-far-def
-use Rattle.plan.proofs.progress.none_so_far.Symbol.{name as #plan·none-so-far}
-use Rattle.plan.proofs.progress.none_so_far.Met as none-so-far-thm
+use Rattle.damage.specs.declared.SoFar.{SoFar}
+use Rattle.damage.proofs.SoFar as D
+use Rattle.damage.proofs.SoFar.Laws as D′
+use Rattle.damage.proofs.progress.none_so_far as none-so-far
+use Rattle.damage.proofs.progress.none_so_far.Symbol as none-so-far-def
+use Rattle.damage.proofs.progress.none_so_far.Symbol.{name as #damage·none-so-far}
+use Rattle.damage.proofs.progress.none_so_far.Met as none-so-far-thm
+use Rattle.layers.specs.Given.{giving}
 use Rattle.layers.specs.Drawing.{ReadyFor, Drawing}
 use Rattle.layers.specs.Next.{NextReady, ScratchAfter}
 use Rattle.layers.proofs.DrawLoop.{needs-two, None, Stt, Nearer, Nearer-wf, start, Next, nearer, next, ready, last}
@@ -153,7 +154,7 @@ module _ {M : Type 1} (𝓤 : URA M) (H : Heap 𝓤) (A : Atoms 𝓤) (W : Given
   abbrev Has : List ℕ → List ℕ → List (Item 𝓤) → List (Item 𝓤)
   Has w c Γ = ‵ Steps ∷ ‵ (flft κ q) ∷ ‵ Src ∷ ‵ (flft κ₁ q₁) ∷ ‵ (Ws κ₂ γ₂ w (length ws₀)) ∷ ‵ (flft κ₂ q₂) ∷ ‵ (Sc κ₃ γ₃ c (length sc₀)) ∷ ‵ (flft κ₃ q₃) ∷ Γ
 
-  exits : (d : SoFar) (v : Val) (w c : List ℕ) → Is D.the-row d (v ∷ []) → length w ≡ length ws₀ → length c ≡ length sc₀ → Drawing call sheet ans ys src ws₀ sc₀ w c (d .count) → ent 𝓤 (⋆ 𝓤 H A (Has w c [])) (Post v)
+  exits : (d : SoFar) (v : Val) (w c : List ℕ) → Is D.the-row d (v ∷ []) → length w ≡ length ws₀ → length c ≡ length sc₀ → Drawing (giving call sheet ys src ws₀ sc₀) ans w c (d .count) → ent 𝓤 (⋆ 𝓤 H A (Has w c [])) (Post v)
   exits d v w c gd ew ec f =
       qed W (Has w c []) ∵
       suffices ! _ (ends-at 𝓤 H A all′.ended stayed (all′.clauses 𝓤 H A mem run) W bound v d (tt, (tt, (tt, (tt, (tt, (w, (c, tt))))))) (tt, (tt, (tt, (tt, (tt, (ew, (ec, tt)))))))) $ says ! f $
@@ -187,7 +188,7 @@ module _ {M : Type 1} (𝓤 : URA M) (H : Heap 𝓤) (A : Atoms 𝓤) (W : Given
         owned ! D.the-row (Is D.the-row) (LL.makes D.the-type D′.the-plain 𝓤 H A) d _ gd $ fjoin ! $ owned ! T.the-row (Is T.the-row) (LL.makes T.the-type T′.the-plain 𝓤 H A) (stepAt ys i) _ g $ fjoin ! $ owned ! usize (Is usize) (uint-makes 𝓤 H A W w64) i _ (refl, gi) $ fjoin ! $
         owned ! Q.the-row (Is Q.the-row) (EL.makes Q.the-type Q′.the-plain 𝓤 H A) ans _ ga $ fjoin ! $ owned ! S.the-row (Is S.the-row) (LL.makes S.the-type S′.the-plain 𝓤 H A) sheet _ gh $ fjoin ! $ owned ! K.the-row (Is K.the-row) (EL.makes K.the-type K′.the-plain 𝓤 H A) call _ gk $ fjoin ! $ done !
 
-  module _ (𝓣 : Tables 𝓤 H) (fm : FmC 𝓤 H (W .laws) (𝓣 .C)) (known₁ : Triple 𝓤 (𝓣 .C #plan·none-so-far) (NoDamages 𝓤 H A mem run)) (known₂ : Triple 𝓤 (𝓣 .C #layers·draw-next) (Work 𝓤 H A mem run)) (gn : Room T.the-row (length ys)) (gs : Room u8 (length src)) (gw : Room u8 (length ws₀)) (gc : Room u8 (length sc₀)) (enough : sheet .count ≤ length ys) (R : accepted? ans ≡ true → ReadyFor call sheet ys src ws₀ sc₀) where
+  module _ (𝓣 : Tables 𝓤 H) (fm : FmC 𝓤 H (W .laws) (𝓣 .C)) (known₁ : Triple 𝓤 (𝓣 .C #damage·none-so-far) (NoDamages 𝓤 H A mem run)) (known₂ : Triple 𝓤 (𝓣 .C #layers·draw-next) (Work 𝓤 H A mem run)) (gn : Room T.the-row (length ys)) (gs : Room u8 (length src)) (gw : Room u8 (length ws₀)) (gc : Room u8 (length sc₀)) (enough : sheet .count ≤ length ys) (R : accepted? ans ≡ true → ReadyFor call sheet ys src ws₀ sc₀) where
     abbrev C : Calls 𝓤 H
     C = 𝓣 .C
 
@@ -332,14 +333,14 @@ module _ {M : Type 1} (𝓤 : URA M) (H : Heap 𝓤) (A : Atoms 𝓤) (W : Given
         begun l₀ l₁ l₂ l₃ l₄ l₅ l₆ l₇ l₈ l₉ l₁₀ l₁₁ l₁₂ l₁₃ l₁₄ l₁₅ l₁₆ l₁₇ l₁₈)))))))))))))))))))
 
 module _ {M : Type 1} (𝓤 : URA M) (H : Heap 𝓤) (A : Atoms 𝓤) (W : Given 𝓤 H A) (mem : Memory → SProp 𝓤) (run : Routine → Fun 𝓤) where
-  walks : (𝓣 : Tables 𝓤 H) → Triple 𝓤 (𝓣 .C #plan·none-so-far) (NoDamages 𝓤 H A mem run) → Triple 𝓤 (𝓣 .C #layers·draw-next) (Work 𝓤 H A mem run) → Walks 𝓤 H A all′.ended stayed (WpFn 𝓤 H (𝓣 .C) (𝓣 .Λ) code.function) (all′.clauses 𝓤 H A mem run)
+  walks : (𝓣 : Tables 𝓤 H) → Triple 𝓤 (𝓣 .C #damage·none-so-far) (NoDamages 𝓤 H A mem run) → Triple 𝓤 (𝓣 .C #layers·draw-next) (Work 𝓤 H A mem run) → Walks 𝓤 H A all′.ended stayed (WpFn 𝓤 H (𝓣 .C) (𝓣 .Λ) code.function) (all′.clauses 𝓤 H A mem run)
   walks 𝓣 known₁ known₂ = walked 𝓤 H A all′.ended stayed (all′.clauses 𝓤 H A mem run) (WpFn 𝓤 H (𝓣 .C) (𝓣 .Λ) code.function) (λ κs. (EL.vals K.the-type K′.the-laws, (LL.vals S.the-type S′.the-laws, (EL.vals Q.the-type Q′.the-laws, (slice-vals, (slice-vals, (slice-vals, (slice-vals, tt))))))))
       (λ κs. (EL.tells K.the-type K′.the-laws, (LL.tells S.the-type S′.the-laws, (EL.tells Q.the-type Q′.the-laws, (shr-slice-tells (named 0) (κs .0) T.the-row, (shr-slice-tells (named 1) (κs .1 .0) u8, (mut-slice-tells (named 2) (κs .1 .1 .0) u8, (mut-slice-tells (named 3) (κs .1 .1 .1 .0) u8, tt))))))))
       (λ κs qs bounds a g are. needs-two 𝓤 (a .1 .0 .count ≤ length (now (a .1 .1 .1 .0))) (accepted? (a .1 .1 .0) ≡ true → ReadyFor (a .0) (a .1 .0) (now (a .1 .1 .1 .0)) (now (a .1 .1 .1 .1 .0)) (now (a .1 .1 .1 .1 .1 .0)) (now (a .1 .1 .1 .1 .1 .1 .0))) _
       (walk 𝓤 H A W mem run (κs .0) (κs .1 .0) (κs .1 .1 .0) (κs .1 .1 .1 .0) (qs .0) (qs .1 .0) (qs .1 .1 .0) (qs .1 .1 .1 .0) (a .1 .1 .1 .0 .ptr .0) (a .1 .1 .1 .0 .ptr .1) (a .1 .1 .1 .0 .name) (a .1 .1 .1 .1 .0 .ptr .0) (a .1 .1 .1 .1 .0 .ptr .1) (a .1 .1 .1 .1 .0 .name) (a .1 .1 .1 .1 .1 .0 .ptr .0) (a .1 .1 .1 .1 .1 .0 .ptr .1) (a .1 .1 .1 .1 .1 .0 .name) (a .1 .1 .1 .1 .1 .1 .0 .ptr .0) (a .1 .1 .1 .1 .1 .1 .0 .ptr .1) (a .1 .1 .1 .1 .1 .1 .0 .name)
       (a .0) _ (are .0) (a .1 .0) (are .1 .0) (a .1 .1 .0) _ (are .1 .1 .0) (a .1 .1 .1 .0 .now) (a .1 .1 .1 .1 .0 .now) (a .1 .1 .1 .1 .1 .0 .now) (a .1 .1 .1 .1 .1 .1 .0 .now) 𝓣 (fmOf 𝓤 H (W .laws) 𝓣) known₁ known₂ (are .1 .1 .1 .0 .0 .1) (are .1 .1 .1 .1 .0 .0 .1) (are .1 .1 .1 .1 .1 .0 .0 .1) (are .1 .1 .1 .1 .1 .1 .0 .0 .1)))
 
-meets : {M : Type 1} (𝓤 : URA M) (H : Heap 𝓤) (A : Atoms 𝓤) → Given 𝓤 H A → (mem : Memory → SProp 𝓤) (run : Routine → Fun 𝓤) (𝓣 : Tables 𝓤 H) → Triple 𝓤 (𝓣 .C #plan·none-so-far) (NoDamages 𝓤 H A mem run) → Triple 𝓤 (𝓣 .C #layers·draw-next) (Work 𝓤 H A mem run)
+meets : {M : Type 1} (𝓤 : URA M) (H : Heap 𝓤) (A : Atoms 𝓤) → Given 𝓤 H A → (mem : Memory → SProp 𝓤) (run : Routine → Fun 𝓤) (𝓣 : Tables 𝓤 H) → Triple 𝓤 (𝓣 .C #damage·none-so-far) (NoDamages 𝓤 H A mem run) → Triple 𝓤 (𝓣 .C #layers·draw-next) (Work 𝓤 H A mem run)
     → Meets 𝓤 H A all′.signature (WpFn 𝓤 H (𝓣 .C) (𝓣 .Λ) code.function) (all′.spec 𝓤 H A mem run)
 meets 𝓤 H A W mem run 𝓣 known₁ known₂ = walk-meets 𝓤 H A all′.ended stayed W (goes-none 𝓤 H A W 4 (λ _. K.the-row) yes (λ κs x f. refl), (goes-none 𝓤 H A W 4 (λ _. S.the-row) yes (λ κs x f. refl), (goes-none 𝓤 H A W 4 (λ _. Q.the-row) yes (λ κs x f. refl), (goes-none-slice 𝓤 H A W 4 (0 ∷ []) tt (plain (λ _. T.the-row)) yes, (goes-none-slice 𝓤 H A W 4 (1 ∷ []) tt (plain (λ _. u8)) yes, (goes-slice 𝓤 H A W 4 2 tt (plain (λ _. u8)), (goes-slice 𝓤 H A W 4 3 tt (plain (λ _. u8)), tt)))))))
     (all′.clauses 𝓤 H A mem run) (WpFn 𝓤 H (𝓣 .C) (𝓣 .Λ) code.function) (WpFn-mono 𝓤 H (W .laws) 𝓣 code.function) (walks 𝓤 H A W mem run 𝓣 known₁ known₂)
@@ -350,5 +351,5 @@ draw-steps-spec 𝓤 H 𝓜 𝓖 𝓡 =
     entered 𝓤 H (tripleOf 𝓤 H (𝓖 .A) all′.signature (all′.spec 𝓤 H (𝓖 .A) (𝓜 .mem) (𝓡 .run)))
     (tables 𝓤 H 𝓜 𝓡 code.env .C) (tables 𝓤 H 𝓜 𝓡 code.env .Λ) #layers·draw-steps code.function (code.unfolded 𝓤 H 𝓜 𝓡)
     (meets 𝓤 H (𝓖 .A) (givenOf 𝓤 H 𝓜 𝓖) (𝓜 .mem) (𝓡 .run) (tablesOf 𝓤 H 𝓜 (tables 𝓤 H 𝓜 𝓡 code.env))
-    (cited 𝓤 H (NoDamages 𝓤 H (𝓖 .A) (𝓜 .mem) (𝓡 .run)) 𝓜 𝓡 code.env #plan·none-so-far none-so-far-def.routine code.calls-plan·progress·none-so-far (none-so-far-thm.met 𝓤 H 𝓜 𝓖 𝓡))
+    (cited 𝓤 H (NoDamages 𝓤 H (𝓖 .A) (𝓜 .mem) (𝓡 .run)) 𝓜 𝓡 code.env #damage·none-so-far none-so-far-def.routine code.calls-damage·progress·none-so-far (none-so-far-thm.met 𝓤 H 𝓜 𝓖 𝓡))
     (cited 𝓤 H (Work 𝓤 H (𝓖 .A) (𝓜 .mem) (𝓡 .run)) 𝓜 𝓡 code.env #layers·draw-next draw-next-def.routine code.calls-layers·steps·draw-next (draw-next-thm.met 𝓤 H 𝓜 𝓖 𝓡)))

@@ -2,7 +2,6 @@
 -- a `&[Step]` to be drawn. Assumes nothing.
 use mathlib.Core.Path.{_≡_, refl, sym, _∙_, ap, subst}
 use Prim.Native.Nat.{ℕ, _<_, _^_}
-use mathlib.Core.Bool.{true}
 use mathlib.Core.List.{List, [], _∷_, _++_}
 use lib.ListN.{length, take, drop as past, replicate}
 use lib.Dec.{lit<}
@@ -51,7 +50,7 @@ use denote.Triple.Walked.{Stays, stay-none-slice, gave-slice, stay-none, walkOf,
 use Rattle.filter.specs.declared.Call as K
 use Rattle.filter.specs.declared.Sheet as H′
 use Rattle.filter.specs.declared.Step.{Step}
-use Rattle.filter.specs.Answers.{accepted?, numberOf, placeOf}
+use Rattle.filter.specs.Answers.{numberOf, placeOf}
 use Rattle.filter.specs.Limits.{mostSteps}
 use Rattle.filter.specs.Steps.{blankStep}
 use Rattle.filter.proofs.Step as T
@@ -68,7 +67,8 @@ use Rattle.text.proofs.Form.Laws as F′
 use Rattle.text.proofs.Reading as R
 use Rattle.text.proofs.Reading.Laws as R′
 use Rattle.render.specs.declared.Redrawn.{Redrawn}
-use Rattle.render.specs.Promise.{taken, answered, asNumber, asPlace, worked, ifDrawn, ifAccepted, zeros, RedrawsFor, AllValid}
+use Rattle.layers.specs.Given.{giving}
+use Rattle.render.specs.Promise.{answered, asNumber, asPlace, worked, ifDrawn, ifAccepted, zeros, RedrawsFor, ValidFor}
 use Rattle.render.proofs.Redrawn as Y
 use Rattle.render.proofs.Redrawn.Laws as Y′
 use Rattle.lent.proofs.Own.{arrTy, array-out, array-room}
@@ -379,22 +379,22 @@ module _ {M : Type 1} (𝓤 : URA M) (H : Heap 𝓤) (A : Atoms 𝓤) (W : Given
           calls-at ! fm (Draw 𝓤 H A at-mem run) known₄ (to-draw l₉ ν δ zs k vh ik) (and-then ! (load ! (from ! (stop !)) (look ! 40 refl)) (and-then ! (load ! (from ! (stop !)) (look ! 17 refl)) (and-then ! (load ! (from ! (stop !)) (look ! 13 refl)) (and-then ! (load ! (from ! (stop !)) (look ! 34 refl)) (and-then ! (load ! (from ! (stop !)) (look ! 9 refl)) (and-then ! (load ! (from ! (stop !)) (look ! 5 refl)) (no-more !))))))) (λ z.
           use1 W (later (some (λ (y : Redrawn). ((‵ (flft (ν ∷ []) fullShare) ⊛ ‵ (flft κ₁ q₁) ⊛ ‵ (flft κ₂ q₂) ⊛ ‵ (flft κ₃ q₃) ⊛ ‵ ftrue) ⊛ ‵ (Y.the-row .own y (z ∷ []))) ⊛ raw (ensured 𝓤 H A draws.ended (draws.clauses 𝓤 H A at-mem run) (ν ∷ [], (κ₁, (κ₂, (κ₃, tt)))) (args-draw l₉ ν δ zs k vh ik) tt y)))) (id⊢ 𝓤 _) $ await ! tt $ pick ! (λ y. split ! $ move ! (1 ∷ []) $
           use1 W (some (λ (ls : Lasts draws.ended (ν ∷ [], (κ₁, (κ₂, (κ₃, tt)))) (args-draw l₉ ν δ zs k vh ik)). ‵ (lasts draws.ended (ν ∷ [], (κ₁, (κ₂, (κ₃, tt)))) (args-draw l₉ ν δ zs k vh ik) ls)
-          ⊛ raw (fact 𝓤 (y .answer ≡ answered call k zs src ws sc))
-          ⊛ raw (fact 𝓤 (numberOf (y .answer) ≡ asNumber call k zs src ws sc))
-          ⊛ raw (fact 𝓤 (placeOf (y .answer) ≡ asPlace call k zs src ws sc))
+          ⊛ raw (fact 𝓤 (y .answer ≡ answered (giving call k zs src ws sc)))
+          ⊛ raw (fact 𝓤 (numberOf (y .answer) ≡ asNumber (giving call k zs src ws sc)))
+          ⊛ raw (fact 𝓤 (placeOf (y .answer) ≡ asPlace (giving call k zs src ws sc)))
           ⊛ raw (fact 𝓤 (y .count ≡ worked (y .answer) call k zs))
-          ⊛ raw (fact 𝓤 (ls .1 .1 .1 .1 .0 ≡ ifDrawn (y .answer) call k zs src ws))
+          ⊛ raw (fact 𝓤 (ls .1 .1 .1 .1 .0 ≡ ifDrawn (y .answer) (giving call k zs src ws sc)))
           ⊛ raw (fact 𝓤 (ls .1 .1 .1 .1 .1 .0 ≡ ifAccepted (y .answer) (zeros sc) sc))
-          ⊛ raw (fact 𝓤 (accepted? (y .answer) ≡ true → RedrawsFor call k zs src ws (ls .1 .1 .1 .1 .0)))
-          ⊛ raw (fact 𝓤 (accepted? (y .answer) ≡ true → AllValid (k .width) (k .height) (taken k zs) (ls .1 .1 .1 .1 .0))))) (id⊢ 𝓤 _) $ pick ! (λ ls. split ! $ move ! (1 ∷ []) $ split ! $
-          heard ! (y .answer ≡ answered call k zs src ws sc) (λ fa. split ! $
-          heard ! (numberOf (y .answer) ≡ asNumber call k zs src ws sc) (λ fn. split ! $
-          heard ! (placeOf (y .answer) ≡ asPlace call k zs src ws sc) (λ fp. split ! $
+          ⊛ raw (fact 𝓤 (RedrawsFor (y .answer) (giving call k zs src ws sc) (ls .1 .1 .1 .1 .0)))
+          ⊛ raw (fact 𝓤 (ValidFor (y .answer) (giving call k zs src ws sc) (ls .1 .1 .1 .1 .0))))) (id⊢ 𝓤 _) $ pick ! (λ ls. split ! $ move ! (1 ∷ []) $ split ! $
+          heard ! (y .answer ≡ answered (giving call k zs src ws sc)) (λ fa. split ! $
+          heard ! (numberOf (y .answer) ≡ asNumber (giving call k zs src ws sc)) (λ fn. split ! $
+          heard ! (placeOf (y .answer) ≡ asPlace (giving call k zs src ws sc)) (λ fp. split ! $
           heard ! (y .count ≡ worked (y .answer) call k zs) (λ fk. split ! $
-          heard ! (ls .1 .1 .1 .1 .0 ≡ ifDrawn (y .answer) call k zs src ws) (λ fl. split ! $
+          heard ! (ls .1 .1 .1 .1 .0 ≡ ifDrawn (y .answer) (giving call k zs src ws sc)) (λ fl. split ! $
           heard ! (ls .1 .1 .1 .1 .1 .0 ≡ ifAccepted (y .answer) (zeros sc) sc) (λ fz. split ! $
-          heard ! (accepted? (y .answer) ≡ true → RedrawsFor call k zs src ws (ls .1 .1 .1 .1 .0)) (λ fr.
-          heard ! (accepted? (y .answer) ≡ true → AllValid (k .width) (k .height) (taken k zs) (ls .1 .1 .1 .1 .0)) (λ fv. fsplit ! $ drop ! $ fsplit ! $ drop ! $ fsplit ! $ drop ! $ fsplit ! $ drop ! $ fsplit ! $ fsplit ! $ move ! (1 ∷ []) $ feqL ! (λ ew. move ! (1 ∷ []) $ fsplit ! $ fsplit ! $ move ! (1 ∷ []) $ feqL ! (λ ec. move ! (3 ∷ []) $ split ! $ move ! (1 ∷ []) $ peeks ! Y.the-row (Is Y.the-row) (shows 𝓤 H A Y.the-row) y (z ∷ []) (λ iy. drop ! $
+          heard ! (RedrawsFor (y .answer) (giving call k zs src ws sc) (ls .1 .1 .1 .1 .0)) (λ fr.
+          heard ! (ValidFor (y .answer) (giving call k zs src ws sc) (ls .1 .1 .1 .1 .0)) (λ fv. fsplit ! $ drop ! $ fsplit ! $ drop ! $ fsplit ! $ drop ! $ fsplit ! $ drop ! $ fsplit ! $ fsplit ! $ move ! (1 ∷ []) $ feqL ! (λ ew. move ! (1 ∷ []) $ fsplit ! $ fsplit ! $ move ! (1 ∷ []) $ feqL ! (λ ec. move ! (3 ∷ []) $ split ! $ move ! (1 ∷ []) $ peeks ! Y.the-row (Is Y.the-row) (shows 𝓤 H A Y.the-row) y (z ∷ []) (λ iy. drop ! $
           land ! (from ! (stop !)) (init ! 28 refl (LL.lawful Y.the-type Y′.the-laws 𝓤 H A W .typed y _ iy .0)) $ split ! $ lft-end ! tt $ move ! (0 ∷ 6 ∷ []) $ lent-back ! tt $
           rewrite ! 0 (λ (m : ℕ). ‵ (arr-parts (shares T.the-row) m .part fullShare zs l₉ 0)) le refl $ use1 W (‵ (froom arrTy l₉ 0)) (array-room 𝓤 H A W l₉ zs) $ move ! (1 ∷ []) $ split ! $ move ! (1 ∷ []) $ split ! $ move ! (1 ∷ []) $ split ! $
           forget ! 11 refl $ forget ! 13 refl $ forget ! 15 refl $ forget ! 17 refl $ forget ! 19 refl $ forget ! 21 refl $ keep ! (9 ∷ 10 ∷ 8 ∷ 3 ∷ 7 ∷ 2 ∷ 5 ∷ 0 ∷ 11 ∷ 12 ∷ 13 ∷ 14 ∷ 15 ∷ 16 ∷ 17 ∷ 18 ∷ 19 ∷ 20 ∷ 21 ∷ 22 ∷ 23 ∷ 24 ∷ 25 ∷ 26 ∷ 27 ∷ 28 ∷ 29 ∷ 30 ∷ 31 ∷ 32 ∷ 33 ∷ 34 ∷ 4 ∷ 35 ∷ 36 ∷ 37 ∷ 38 ∷ 39 ∷ 40 ∷ 41 ∷ 42 ∷ 43 ∷ 44 ∷ 45 ∷ 46 ∷ 47 ∷ 48 ∷ 49 ∷ 50 ∷ 51 ∷ 52 ∷ 53 ∷ []) $

@@ -4,15 +4,15 @@ use Prim.Native.Nat.{ℕ, _+_, _*_}
 use native.Mathlib.Omega.{arith}
 use lib.ListN.{length, length-set}
 use borrow.Author.Tests.{not-false}
-use borrow.Author.Needs.{needs}
 use Rattle.filter.specs.declared.Input.the-variants.{Source}
 use Rattle.filter.specs.declared.Rect.{Rect}
 use Rattle.filter.specs.Limits.{longestSide}
 use Rattle.filter.specs.Answers.{accepted?}
-use Rattle.plan.specs.Damage.{rectOf, AllWithin}
-use Rattle.plan.proofs.Acceptance.{accepted-step}
-use Rattle.plan.proofs.Damaged.{within-more, region-more}
+use Rattle.damage.specs.Damage.{rectOf, AllWithin}
+use Rattle.checks.proofs.Acceptance.{accepted-step}
+use Rattle.damage.proofs.Damaged.{within-more}
 use Rattle.plans.proofs.Rects.{more-within}
+use borrow.Author.Needs.{needs}
 use Rattle.plans.proofs.next_damages.Statement.{statement}
 use Rattle.plans.proofs.next_damages.Tie as tie
 
@@ -25,25 +25,37 @@ is-accepted-requires c κs = search needs
 returns : tie.Need-returns
 returns c = let s = c .before .before .before in (omega (arith, s .pre .0 .3), s .pre .1 .0, s .pre .1 .1)
 
-step-damage-requires : tie.Need-step-damage-requires
-step-damage-requires c κs =
-    let s = c .before .before .before .before in
+resolve-requires : tie.Need-resolve-requires
+resolve-requires c κs = search needs
+
+bounds-requires : tie.Need-bounds-requires
+bounds-requires c κs =
+    let e = c .before .before in
+    let s = e .before .before .before in
     let a = s .args in
-    let A = accepted-step (a .w) (a .h) (a .n) (a .step) (ap accepted? (sym (c .before .before .before .check-step .ensures)) ∙ sym (c .before .before .is-accepted .ensures) ∙ not-false _ (c .before .if1 .left)) in
-    (A .numbers, region-more (a .w) (a .h) (a .step .region) (s .pre .0 .1) (s .pre .0 .2) (A .region), s .pre .1 .1)
+    let A = accepted-step (a .w) (a .h) (a .n) (a .step) (ap accepted? (sym (e .before .before .check-step .ensures)) ∙ sym (e .before .is-accepted .ensures) ∙ not-false _ (e .if1 .left)) in
+    (omega (arith, A .region .right, s .pre .0 .1), omega (arith, A .region .bottom, s .pre .0 .2))
+
+damage-of-requires : tie.Need-damage-of-requires
+damage-of-requires c κs =
+    let e = c .before .before .before in
+    let s = e .before .before .before in
+    let a = s .args in
+    let A = accepted-step (a .w) (a .h) (a .n) (a .step) (ap accepted? (sym (e .before .before .check-step .ensures)) ∙ sym (e .before .is-accepted .ensures) ∙ not-false _ (e .if1 .left)) in
+    (rw (c .before .resolve .ensures) (A .numbers .shape), s .pre .1 .1)
 
 with-rect-requires : tie.Need-with-rect-requires
 with-rect-requires c κs =
-    let s = c .before .before .before .before .before in
+    let s = c .before .before .before .before .before .before .before in
     let a = s .args in
-    (s .pre .0 .0, s .pre .0 .3, within-more (a .w) (a .h) (c .step-damage .result) (s .pre .0 .1) (s .pre .0 .2) (c .step-damage .ensures .1))
+    (s .pre .0 .0, s .pre .0 .3, within-more (a .w) (a .h) (c .damage-of .result) (s .pre .0 .1) (s .pre .0 .2) (c .damage-of .ensures .1))
 
 returns-2 : tie.Need-returns-2
 unfolding rectOf
 returns-2 c =
-    let s = c .before .before .before .before .before .before in
+    let s = c .before .before .before .before .before .before .before .before in
     let a = s .args in
-    let D = c .before .step-damage in
+    let D = c .before .damage-of in
     let E = c .with-rect .ensures in
     let z = within-more (a .w) (a .h) (D .result) (s .pre .0 .1) (s .pre .0 .2) (D .ensures .1) in (
       omega (arith, E .1, E .2, s .pre .0 .3),
@@ -58,6 +70,8 @@ next-damages-spec =
     check-step-requires
     is-accepted-requires
     returns
-    step-damage-requires
+    resolve-requires
+    bounds-requires
+    damage-of-requires
     with-rect-requires
     returns-2)

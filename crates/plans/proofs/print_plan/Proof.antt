@@ -6,7 +6,7 @@ use borrow.Author.Needs.{needs}
 use Rattle.filter.specs.Answers.{accepted?}
 use Rattle.filter.specs.Checks.{orElse}
 use Rattle.filter.proofs.Refusals.{else-accepted}
-use Rattle.plan.proofs.Acceptance.{accepted-sizes, accepted-rectangle}
+use Rattle.checks.proofs.Acceptance.{accepted-sizes, accepted-rectangle}
 use Rattle.plans.proofs.print_plan.Statement.{statement}
 use Rattle.plans.proofs.print_plan.Tie as tie
 

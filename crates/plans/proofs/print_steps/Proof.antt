@@ -7,7 +7,7 @@ use borrow.Author.Needs.{needs}
 use Rattle.filter.specs.declared.Rect.{Rect}
 use Rattle.filter.specs.Rect.{empty}
 use Rattle.filter.specs.Limits.{longestSide, mostPixels, mostSteps}
-use Rattle.plan.specs.Damage.{AllWithin}
+use Rattle.damage.specs.Damage.{AllWithin}
 use Rattle.plans.proofs.Rects.{none-within}
 use Rattle.plans.proofs.print_steps.Statement.{statement}
 use Rattle.plans.proofs.print_steps.Tie as tie

@@ -57,11 +57,12 @@ use Rattle.filter.proofs.Sheet as S
 use Rattle.filter.proofs.Sheet.Laws as S′
 use Rattle.filter.proofs.Answer as Q
 use Rattle.filter.proofs.Answer.Laws as Q′
-use Rattle.plan.specs.declared.SoFar.{SoFar}
-use Rattle.plan.proofs.SoFar as D
-use Rattle.plan.proofs.SoFar.Laws as D′
+use Rattle.damage.specs.declared.SoFar.{SoFar}
+use Rattle.damage.proofs.SoFar as D
+use Rattle.damage.proofs.SoFar.Laws as D′
 use Rattle.lent.proofs.Again.{LentAgain, lends-again, comes-back}
 use Rattle.lent.proofs.SaysAnd.{says-all}
+use Rattle.layers.specs.Given.{giving}
 use Rattle.layers.specs.Drawing.{ReadyFor, Drawing}
 use Rattle.render.specs.declared.Redrawn.{Redrawn}
 use Rattle.render.specs.Promise.{taken, answered, ifAccepted, zeros}
@@ -75,30 +76,30 @@ use Rattle.window.proofs.lesser as lesser
 use Rattle.window.proofs.lesser.Symbol as lesser-def
 use Rattle.window.proofs.lesser.Symbol.{name as #lesser}
 use Rattle.window.proofs.lesser.Met as lesser-thm
-use Rattle.render.proofs.checks.usable as usable
-use Rattle.render.proofs.checks.usable.Symbol as usable-def
-use Rattle.render.proofs.checks.usable.Symbol.{name as #usable}
-use Rattle.render.proofs.checks.usable.Met as usable-thm
+use Rattle.render.proofs.settling.usable as usable
+use Rattle.render.proofs.settling.usable.Symbol as usable-def
+use Rattle.render.proofs.settling.usable.Symbol.{name as #usable}
+use Rattle.render.proofs.settling.usable.Met as usable-thm
 use Rattle.layers.proofs.check_steps as check
 use Rattle.layers.proofs.check_steps.Symbol as check-def
 use Rattle.layers.proofs.check_steps.Symbol.{name as #check}
 use Rattle.layers.proofs.check_steps.Met as check-thm
-use Rattle.render.proofs.checks.settle as settle
-use Rattle.render.proofs.checks.settle.Symbol as settle-def
-use Rattle.render.proofs.checks.settle.Symbol.{name as #settle}
-use Rattle.render.proofs.checks.settle.Met as settle-thm
-use Rattle.render.proofs.checks.counted as counted
-use Rattle.render.proofs.checks.counted.Symbol as counted-def
-use Rattle.render.proofs.checks.counted.Symbol.{name as #counted}
-use Rattle.render.proofs.checks.counted.Met as counted-thm
+use Rattle.render.proofs.settling.settle as settle
+use Rattle.render.proofs.settling.settle.Symbol as settle-def
+use Rattle.render.proofs.settling.settle.Symbol.{name as #settle}
+use Rattle.render.proofs.settling.settle.Met as settle-thm
+use Rattle.render.proofs.settling.counted as counted
+use Rattle.render.proofs.settling.counted.Symbol as counted-def
+use Rattle.render.proofs.settling.counted.Symbol.{name as #counted}
+use Rattle.render.proofs.settling.counted.Met as counted-thm
 use Rattle.layers.proofs.draw_steps as steps
 use Rattle.layers.proofs.draw_steps.Symbol as steps-def
 use Rattle.layers.proofs.draw_steps.Symbol.{name as #steps}
 use Rattle.layers.proofs.draw_steps.Met as steps-thm
-use Rattle.render.proofs.checks.finish as finish
-use Rattle.render.proofs.checks.finish.Symbol as finish-def
-use Rattle.render.proofs.checks.finish.Symbol.{name as #finish}
-use Rattle.render.proofs.checks.finish.Met as finish-thm
+use Rattle.render.proofs.settling.finish as finish
+use Rattle.render.proofs.settling.finish.Symbol as finish-def
+use Rattle.render.proofs.settling.finish.Symbol.{name as #finish}
+use Rattle.render.proofs.settling.finish.Met as finish-thm
 use Rattle.render.proofs.draw.Key.{name as #render·draw}
 use Rattle.render.proofs.draw as draw′
 use Rattle.render.proofs.draw.Statement as stated
@@ -217,14 +218,14 @@ module _ {M : Type 1} (𝓤 : URA M) (H : Heap 𝓤) (A : Atoms 𝓤) (W : Given
   n = taken sh ys
 
   abbrev answer : Answer
-  answer = answered call sh ys src ws sc
+  answer = answered (giving call sh ys src ws sc)
 
-  exits : (r : Redrawn) (v : Val) (w c : List ℕ) → Is Z.the-row r (v ∷ []) → length w ≡ length ws → length c ≡ length sc → Promised call sh ys src ws sc r w c
+  exits : (r : Redrawn) (v : Val) (w c : List ℕ) → Is Z.the-row r (v ∷ []) → length w ≡ length ws → length c ≡ length sc → Promised (giving call sh ys src ws sc) r w c
       → ent 𝓤 (⋆ 𝓤 H A (Tokens ∷ ‵ (finally u8 γ₃ c) ∷ ‵ (finally u8 γ₂ w) ∷ ‵ Src ∷ ‵ Steps ∷ [])) (Post v)
   exits r v w c ir ew ec f =
       qed W (Tokens ∷ ‵ (finally u8 γ₃ c) ∷ ‵ (finally u8 γ₂ w) ∷ ‵ Src ∷ ‵ Steps ∷ []) ∵
       suffices ! _ (ends-at 𝓤 H A draw′.ended stayed (draw′.clauses 𝓤 H A mem run) W bound v r (tt, (tt, (tt, (tt, (w, (c, tt)))))) (tt, (tt, (tt, (tt, (ew, (ec, tt))))))) $
-      says-all ! (r .answer ≡ answer) (Promises call sh ys src ws sc r w c) f $
+      says-all ! (r .answer ≡ answer) (Promises (giving call sh ys src ws sc) r w c) f $
       frame ! $ nothing ! $ move ! (1 ∷ 0 ∷ []) $ fjoin ! $ move ! (1 ∷ 0 ∷ []) $ fjoin ! $ move ! (1 ∷ 0 ∷ []) $ fjoin ! $ move ! (1 ∷ 0 ∷ []) $ fjoin ! $
       owned ! S.the-row (Is S.the-row) (LL.makes S.the-type S′.the-plain 𝓤 H A) sh _ gh $ fjoin ! $ owned ! C′.the-row (Is C′.the-row) (EL.makes C′.the-type C″.the-plain 𝓤 H A) call _ gk $ fjoin ! $ frame ! $ owned ! Z.the-row (Is Z.the-row) (LL.makes Z.the-type Z′.the-plain 𝓤 H A) r _ ir $ done !
 
@@ -302,7 +303,7 @@ module _ {M : Type 1} (𝓤 : URA M) (H : Heap 𝓤) (A : Atoms 𝓤) (W : Given
 
     -- what `draw_steps` says
     abbrev Drawn : List ℕ → List ℕ → ℕ → Type 0
-    Drawn w′ c′ total = Drawing call h a ys src w c w′ c′ total
+    Drawn w′ c′ total = Drawing (giving call h ys src w c) a w′ c′ total
 
   module _ (a : Answer) (v : Val) (ia : Is Q.the-row a (v ∷ [])) (d : SoFar) (u : Val) (id : Is D.the-row d (u ∷ [])) (c : List ℕ) where
     abbrev args-finish : Args finish.signature (κ₃, tt)
@@ -374,7 +375,7 @@ module _ {M : Type 1} (𝓤 : URA M) (H : Heap 𝓤) (A : Atoms 𝓤) (W : Given
 
       -- the scratch buffer cleared, and the end
       ended : (a : Answer) (v : Val) (ia : Is Q.the-row a (v ∷ [])) (d : SoFar) (u : Val) (id : Is D.the-row d (u ∷ [])) (v₉ v₁₇ : Val) (m k : ℕ) (w c : List ℕ) → length w ≡ length ws → length c ≡ length sc
-          → a ≡ answer → (accepted? a ≡ true → usableOf n ≡ n) → (accepted? a ≡ true → ReadyFor call (with sh n) ys src ws sc) → Drawing call (with sh (usableOf n)) a ys src ws sc w c (d .count)
+          → a ≡ answer → (accepted? a ≡ true → usableOf n ≡ n) → (accepted? a ≡ true → ReadyFor call (with sh n) ys src ws sc) → Drawing (giving call (with sh (usableOf n)) ys src ws sc) a w c (d .count)
           → Sq W (Drew w c (Locals (counts l₇ m) (counts l₈ k) (answers l₉ v₉) (answers l₁₀ v) (‵ (fat fullShare D′.mir l₁₁ 0 u)) (‵ (fat fullShare S′.mir l₁₇ 0 v₁₇)))) (runs C Λ En mir.t-16 (atRet En Post))
       ended a v ia d u id v₉ v₁₇ m k w c ew el fa used ready D =
           assigns ! (addr ! (from ! (fld ! refl (hop ! (look-in ! 42 (sub ! 0 refl (whole !))) (stop !))))) (from ! (stop !)) (init ! 10 refl (tt, tt)) $
@@ -408,7 +409,7 @@ module _ {M : Type 1} (𝓤 : URA M) (H : Heap 𝓤) (A : Atoms 𝓤) (W : Given
           land ! (from ! (stop !)) (init ! 31 refl (LL.lawful D.the-type D′.the-laws 𝓤 H A W .typed d _ id .0)) $ split ! $ move ! (1 ∷ []) $ split ! $ move ! (1 ∷ []) $ split ! $ move ! (1 ∷ []) $ split ! $
           lft-end ! tt $ move ! (0 ∷ 10 ∷ 5 ∷ []) $ use3 W (later (‵ (Sc κ₃ γ₃ (ls .1 .1 .1 .1 .1 .1 .0)) ⊛ ‵ (flft κ₃ q₃))) (comes-back u8 κ₃ (μ ∷ []) q₃ γ₃ b₃ o₃ 𝓤 H A W (named 3) (named 3) sc ε (ls .1 .1 .1 .1 .1 .1 .0) gc ec) $ await ! tt $ split ! $
           forget ! 14 refl $ forget ! 16 refl $ forget ! 18 refl $ forget ! 20 refl $ keep ! (9 ∷ 5 ∷ 8 ∷ 4 ∷ 7 ∷ 3 ∷ 0 ∷ 1 ∷ 10 ∷ 11 ∷ 12 ∷ 13 ∷ 14 ∷ 15 ∷ 16 ∷ 17 ∷ 18 ∷ 19 ∷ 20 ∷ 21 ∷ 22 ∷ 23 ∷ 24 ∷ 25 ∷ 26 ∷ 27 ∷ 28 ∷ 29 ∷ 30 ∷ 31 ∷ 32 ∷ 33 ∷ 34 ∷ 35 ∷ 36 ∷ 37 ∷ 38 ∷ 39 ∷ 40 ∷ 41 ∷ 42 ∷ 43 ∷ 44 ∷ 45 ∷ 46 ∷ 47 ∷ 48 ∷ 49 ∷ 50 ∷ 51 ∷ 52 ∷ 53 ∷ 54 ∷ 55 ∷ 56 ∷ 57 ∷ []) $
-          ended a v ia d u id v₉ y m k (ls .1 .1 .1 .1 .1 .0) (ls .1 .1 .1 .1 .1 .1 .0) ew ec fa used ready (subst (λ (s′ : Sheet). Drawing call s′ a ys src ws sc (ls .1 .1 .1 .1 .1 .0) (ls .1 .1 .1 .1 .1 .1 .0) (d .count)) (eh ∙ ap (with sh) ek) e))))))))))
+          ended a v ia d u id v₉ y m k (ls .1 .1 .1 .1 .1 .0) (ls .1 .1 .1 .1 .1 .1 .0) ew ec fa used ready (subst (λ (s′ : Sheet). Drawing (giving call s′ ys src ws sc) a (ls .1 .1 .1 .1 .1 .0) (ls .1 .1 .1 .1 .1 .1 .0) (d .count)) (eh ∙ ap (with sh) ek) e))))))))))
         where
           enough : h .count ≤ length ys
           enough = subst (λ (s′ : Sheet). s′ .count ≤ length ys) (sym eh) few
@@ -528,9 +529,9 @@ draw-spec 𝓤 H 𝓜 𝓖 𝓡 =
     (tables 𝓤 H 𝓜 𝓡 code.env .C) (tables 𝓤 H 𝓜 𝓡 code.env .Λ) #render·draw code.function (code.unfolded 𝓤 H 𝓜 𝓡)
     (meets 𝓤 H (𝓖 .A) (givenOf 𝓤 H 𝓜 𝓖) (𝓜 .mem) (𝓡 .run) (tablesOf 𝓤 H 𝓜 (tables 𝓤 H 𝓜 𝓡 code.env))
     (cited 𝓤 H (Lesser 𝓤 H (𝓖 .A) (𝓜 .mem) (𝓡 .run)) 𝓜 𝓡 code.env #lesser lesser-def.routine code.calls-window·lesser (lesser-thm.met 𝓤 H 𝓜 𝓖 𝓡))
-    (cited 𝓤 H (Usable 𝓤 H (𝓖 .A) (𝓜 .mem) (𝓡 .run)) 𝓜 𝓡 code.env #usable usable-def.routine code.calls-render·checks·usable (usable-thm.met 𝓤 H 𝓜 𝓖 𝓡))
+    (cited 𝓤 H (Usable 𝓤 H (𝓖 .A) (𝓜 .mem) (𝓡 .run)) 𝓜 𝓡 code.env #usable usable-def.routine code.calls-render·settling·usable (usable-thm.met 𝓤 H 𝓜 𝓖 𝓡))
     (cited 𝓤 H (Check 𝓤 H (𝓖 .A) (𝓜 .mem) (𝓡 .run)) 𝓜 𝓡 code.env #check check-def.routine code.calls-layers·check-steps (check-thm.met 𝓤 H 𝓜 𝓖 𝓡))
-    (cited 𝓤 H (Settle 𝓤 H (𝓖 .A) (𝓜 .mem) (𝓡 .run)) 𝓜 𝓡 code.env #settle settle-def.routine code.calls-render·checks·settle (settle-thm.met 𝓤 H 𝓜 𝓖 𝓡))
-    (cited 𝓤 H (Counted 𝓤 H (𝓖 .A) (𝓜 .mem) (𝓡 .run)) 𝓜 𝓡 code.env #counted counted-def.routine code.calls-render·checks·counted (counted-thm.met 𝓤 H 𝓜 𝓖 𝓡))
+    (cited 𝓤 H (Settle 𝓤 H (𝓖 .A) (𝓜 .mem) (𝓡 .run)) 𝓜 𝓡 code.env #settle settle-def.routine code.calls-render·settling·settle (settle-thm.met 𝓤 H 𝓜 𝓖 𝓡))
+    (cited 𝓤 H (Counted 𝓤 H (𝓖 .A) (𝓜 .mem) (𝓡 .run)) 𝓜 𝓡 code.env #counted counted-def.routine code.calls-render·settling·counted (counted-thm.met 𝓤 H 𝓜 𝓖 𝓡))
     (cited 𝓤 H (DrawSteps 𝓤 H (𝓖 .A) (𝓜 .mem) (𝓡 .run)) 𝓜 𝓡 code.env #steps steps-def.routine code.calls-layers·draw-steps (steps-thm.met 𝓤 H 𝓜 𝓖 𝓡))
-    (cited 𝓤 H (Finish 𝓤 H (𝓖 .A) (𝓜 .mem) (𝓡 .run)) 𝓜 𝓡 code.env #finish finish-def.routine code.calls-render·checks·finish (finish-thm.met 𝓤 H 𝓜 𝓖 𝓡)))
+    (cited 𝓤 H (Finish 𝓤 H (𝓖 .A) (𝓜 .mem) (𝓡 .run)) 𝓜 𝓡 code.env #finish finish-def.routine code.calls-render·settling·finish (finish-thm.met 𝓤 H 𝓜 𝓖 𝓡)))

@@ -8,7 +8,7 @@ use borrow.Author.Needs.{needs}
 use Rattle.filter.specs.declared.Call.the-variants as C
 use Rattle.filter.specs.Limits.{textPicture}
 use Rattle.text.specs.declared.Form.the-variants as F
-use Rattle.lines.specs.Lines.{answerIn}
+use Rattle.lines.specs.Lines.{givingText, answerIn}
 use Rattle.text_answer.proofs.Rooms.{size-le, zeros-long, take-zeros}
 use Rattle.text_answer.proofs.draw.Statement.{statement}
 use Rattle.text_answer.proofs.draw.Tie as tie
@@ -43,7 +43,7 @@ returns c =
     let E = c .before .before .before .draw-lines .ensures in
     let r = size-le (a .width) (a .height) (p .ensures .0) (s .pre .0) (s .pre .1) in
     let z = take-zeros (2 * p .result) (2 * textPicture) (omega arith) ∙ ap (λ (n : ℕ). replicate {A = ℕ} (2 * n) 0) (p .ensures .0) in
-    (E .1 .0 ∙ ap (answerIn F.Sheet (a .text .now) C.Render (a .width) (a .height) (a .source .now) (a .workspace .now)) z, E .1 .1 .1 .0)
+    (E .1 .0 ∙ ap (λ (l : List ℕ). answerIn (givingText F.Sheet (a .text .now) C.Render (a .width) (a .height) (a .source .now) (a .workspace .now) l)) z, E .1 .1 .1 .0)
 
 pub draw-spec : {M : Type 1} → statement M
 draw-spec =

@@ -12,12 +12,12 @@ is-accepted-requires : tie.Need-is-accepted-requires
 is-accepted-requires c κs = search needs
 
 last-layer-requires : tie.Need-last-layer-requires
-last-layer-requires c κs = let s = c .before .before .before .before in (s .pre .0 .0, s .pre .0 .1, s .pre .1 (sym (c .before .is-accepted .ensures) ∙ c .if1 .taken), s .pre .0 .2)
+last-layer-requires c κs = let s = c .before .before .before .before in (s .pre .0 .0, s .pre .0 .1, s .pre .1 .1 (sym (c .before .is-accepted .ensures) ∙ c .if1 .taken), s .pre .0 .2)
 
 put-ok-requires : tie.Need-put-ok-requires
 put-ok-requires c κs =
     let s = c .before .before .before .before .before .before in
-    (c .before .last-layer .ensures .0, ok-room _ _ _ _ (s .pre .0 .0) (s .pre .0 .1) (s .pre .0 .3))
+    (c .before .last-layer .ensures .0, ok-room _ _ _ _ (s .pre .0 .0) (s .pre .0 .1) (s .pre .1 .0))
 
 same-length : tie.Need-same-length
 same-length c = search needs
@@ -35,7 +35,7 @@ place-requires : tie.Need-place-requires
 place-requires c κs = search needs
 
 put-refused-requires : tie.Need-put-refused-requires
-put-refused-requires c κs = refused-room _ _ _ (search needs) (search needs) (c .before .before .before .before .before .before .before .pre .0 .3)
+put-refused-requires c κs = refused-room _ _ _ (search needs) (search needs) (c .before .before .before .before .before .before .before .pre .1 .0)
 
 same-length-2 : tie.Need-same-length-2
 same-length-2 c = search needs

@@ -17,8 +17,8 @@ print-answer-requires c κs =
     let s = c .before .before .before .before .before .before .before .before .before .before in
     let d = c .before .before .before .before .draw in
     let n = length-replicate {A = ℕ} (s .args .count * size (s .args .width) (s .args .height)) 0 in (
-      (s .pre .0 .0, s .pre .0 .1, d .kept .1 .1 .1 .1 .0 ∙ ap length (s .pre .1 .0) ∙ n, s .pre .1 .1),
-      drawn-some (s .args .text .now) (s .args .width) (s .args .height) (s .args .count) (s .args .source .now) (s .args .workspace .now) _ (s .pre .0 .2) (s .pre .1 .0) (d .ensures .0),
+      (s .pre .0 .0, s .pre .0 .1, d .kept .1 .1 .1 .1 .0 ∙ ap length (s .pre .1 .0) ∙ n),
+      (s .pre .1 .1, drawn-some (s .args .text .now) (s .args .width) (s .args .height) (s .args .count) (s .args .source .now) (s .args .workspace .now) _ (s .pre .0 .2) (s .pre .1 .0) (d .ensures .0)),
     )
 
 same-length : tie.Need-same-length

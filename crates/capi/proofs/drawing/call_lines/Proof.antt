@@ -4,8 +4,7 @@ use Rattle.filter.specs.declared.Answer.{Answer}
 use Rattle.filter.specs.Answers.{accepted?}
 use Rattle.text.specs.declared.Form.the-variants as F
 use Rattle.render.specs.Promise.{ifAccepted, zeros}
-use Rattle.lines.specs.Lines.{workedIn, layersIn}
-use Rattle.capi.specs.Lines.{answerTo}
+use Rattle.lines.specs.Lines.{givingText, answerIn, workedIn, layersIn}
 use Rattle.capi.proofs.Replies.{reply-is}
 use borrow.Author.Needs.{needs}
 use Rattle.capi.proofs.drawing.call_lines.Statement.{statement}
@@ -29,13 +28,14 @@ returns c =
     let d = c .before .before .before .before .before .draw-lines .result in
     let e = c .before .before .before .before .before .draw-lines .ensures in
     let a = e .1 .0 in
-    let same : accepted? (d .answer) ≡ accepted? (answerTo (s .call) (s .width) (s .height) (s .steps .now) (s .source .now) (s .workspace .now) (s .scratch .now)) = ap accepted? a in (
-      reply-is _ _ _ _ _ (λ (x : Answer). workedIn x F.Lines (s .steps .now) (s .call) (s .width) (s .height)) (c .reply .ensures) (e .0) a (e .1 .1 .0),
+    let t = givingText F.Lines (s .steps .now) (s .call) (s .width) (s .height) (s .source .now) (s .workspace .now) (s .scratch .now) in
+    let same : accepted? (d .answer) ≡ accepted? (answerIn t) = ap accepted? a in (
+      reply-is _ _ _ _ _ (λ (x : Answer). workedIn x t) (c .reply .ensures) (e .0) a (e .1 .1 .0),
       (
-        e .1 .1 .1 .0 ∙ ap (λ (x : Answer). layersIn x F.Lines (s .steps .now) (s .call) (s .width) (s .height) (s .source .now) (s .workspace .now)) a,
+        e .1 .1 .1 .0 ∙ ap (λ (x : Answer). layersIn x t) a,
         (
           e .1 .1 .1 .1 .0 ∙ ap (λ (x : Answer). ifAccepted x (zeros (s .scratch .now)) (s .scratch .now)) a,
-          ((λ t. e .1 .1 .1 .1 .1 .0 (same ∙ t)), (λ t. e .1 .1 .1 .1 .1 .1 (same ∙ t))),
+          ((λ y. e .1 .1 .1 .1 .1 .0 (same ∙ y)), (λ y. e .1 .1 .1 .1 .1 .1 (same ∙ y))),
         ),
       ),
     )

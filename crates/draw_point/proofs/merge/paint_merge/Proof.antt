@@ -1,9 +1,9 @@
 -- `draw_point::merge::paint_merge` meets its contract: the stacked row is stored. Assumes nothing.
 use borrow.Author.Needs.{needs}
-use Rattle.filter.specs.declared.Primitive.the-variants.{Merge}
-use Rattle.filter.specs.Kinds.{work}
+use Rattle.filter.specs.Kinds.{workOf}
 use Rattle.stage.specs.Shown.{shown}
-use Rattle.draw_point.proofs.Strokes.{painted-stored}
+use Rattle.stage.proofs.LoadedRows.{painted-stored}
+use Rattle.draw_point.specs.Row.{stackOf}
 use Rattle.draw_point.proofs.merge.paint_merge.Statement.{statement}
 use Rattle.draw_point.proofs.merge.paint_merge.Tie as tie
 
@@ -26,12 +26,17 @@ same-length-4 : tie.Need-same-length-4
 same-length-4 c = search needs
 
 returns : tie.Need-returns
+unfolding workOf
 returns c =
     let store-at = c .before .before in
     let stack-at = store-at .before .before .before .before .before .before .before .before .before in
     let s = stack-at .before .before .before .before .before .before .before .before .before .before .before in
     let a = s .args in
-    (painted-stored (work (a .w) (a .h) (Merge (a .count) (a .inputs)) (shown (a .lens) (a .w) (a .h) (a .source .now) (a .workspace .now))) (a .y) (a .from) (a .to) _ _ (stack-at .stack .ensures) _ _ _ (store-at .store .ensures), ((record { long = stack-at .stack .kept .1 .1 .1 .1 .1 .1 .1 .1 .1 .1 .1 .1 .0 }, record { long = stack-at .stack .kept .1 .1 .1 .1 .1 .1 .1 .1 .1 .1 .1 .1 .1 .0 }), record { long = stack-at .stack .ensures .long }))
+    let p = stackOf (shown (a .context) (a .source .now) (a .workspace .now)) (a .inputs) (a .count) in
+    let K = stack-at .stack .kept .1 .1 .1 .1 .1 .1 .1 in (
+      painted-stored p (a .part .y) (a .part .from) (a .part .to) _ _ (stack-at .stack .ensures) _ _ _ (store-at .store .ensures),
+      ((record { long = K .0 }, record { long = K .1 .0 }), record { long = stack-at .stack .ensures .long }),
+    )
 
 pub paint-merge-spec : {M : Type 1} → statement M
 paint-merge-spec =

@@ -6,21 +6,22 @@ use native.Mathlib.Omega.{arith}
 use lib.ListN.{length}
 use borrow.Author.Needs.{needs}
 use Rattle.pixel.proofs.Painting.{painted-as}
-use Rattle.filter.specs.Kinds.{work, reads}
-use Rattle.filter.specs.Accepted.{Bounded}
+use Rattle.filter.specs.Kinds.{workOf, reads}
+use Rattle.filter.specs.Accepted.{Measured}
+use Rattle.stage.proofs.Sizes.{sized-canvas}
 use Rattle.stage.proofs.Shown.{shown-blank}
-use Rattle.draw_point.proofs.Strokes.{part-long, painted-row}
-use Rattle.draw_point.proofs.Shifts.{shifted-above, shifted-below, cut-order, cut-wide, cut-few, shift-small, moved-shifted}
+use Rattle.stage.proofs.LoadedRows.{part-long, painted-row}
+use Rattle.draw_point.proofs.Shifts.{shifted-above, shifted-below, cut-part, shift-small, moved-shifted}
 use Rattle.draw_point.proofs.offset.paint_offset.Statement.{statement}
 use Rattle.draw_point.proofs.offset.paint_offset.Tie as tie
 
 add-below : tie.Need-add-below
-unfolding Bounded
+unfolding Measured
 add-below c =
-    let s = c .before .before .before .before .before in
+    let s = c .before .before .before .before .before .before in
     let D = s .pre .0 in
     let R = s .pre .1 in
-    omega (arith, D .bounded .1 .minus, R .high, D .sized .high)
+    omega (arith, D .measured .1 .minus, R .high, D .drawable .readable .sized .high)
 
 paint-none-requires : tie.Need-paint-none-requires
 paint-none-requires c κs = search needs
@@ -29,13 +30,13 @@ same-length : tie.Need-same-length
 same-length c = search needs
 
 returns : tie.Need-returns
-unfolding work
+unfolding workOf
 returns c =
     let paint-none-at = c .before .before in
     let if1-at = paint-none-at .before .before in
-    let s = if1-at .before .before .before .before .before .before .before in
+    let s = if1-at .before .before .before .before .before .before .before .before in
     let a = s .args in
-    (painted-as _ _ _ _ _ _ _ (λ x l m. sym (shifted-above (a .dx) (a .dy) _ x (a .y) (if1-at .if1 .taken))) (paint-none-at .paint-none .ensures), record { long = refl })
+    (painted-as _ _ _ _ _ _ _ (λ x l m. sym (shifted-above (a .dx) (a .dy) _ x (a .part .y) (if1-at .if1 .taken))) (paint-none-at .paint-none .ensures), record { long = refl })
 
 paint-none-requires-2 : tie.Need-paint-none-requires-2
 paint-none-requires-2 c κs = search needs
@@ -44,33 +45,33 @@ same-length-2 : tie.Need-same-length-2
 same-length-2 c = search needs
 
 returns-2 : tie.Need-returns-2
-unfolding work
+unfolding workOf
 returns-2 c =
     let paint-none2-at = c .before .before in
     let if2-at = paint-none2-at .before .before in
-    let if1-at = if2-at .before .before in
-    let s = if1-at .before .before .before .before .before .before .before in
+    let if1-at = if2-at .before .before .before in
+    let s = if1-at .before .before .before .before .before .before .before .before in
     let a = s .args in
-    (painted-as _ _ _ _ _ _ _ (λ x l m. sym (shifted-below (a .dx) (a .dy) _ x (a .y) (a .w) (a .h) (shown-blank (a .lens) _ _ _ _ (a .i)) (if1-at .if1 .left) (if2-at .if2 .taken))) (paint-none2-at .paint-none2 .ensures), record { long = refl })
+    (painted-as _ _ _ _ _ _ _ (λ x l m. sym (shifted-below (a .dx) (a .dy) _ x (a .part .y) (a .context .w) (a .context .h) (shown-blank (a .context) _ _ (a .i)) (if1-at .if1 .left) (if2-at .if2 .taken))) (paint-none2-at .paint-none2 .ensures), record { long = refl })
 
 add-cut : tie.Need-add-cut
-unfolding Bounded
+unfolding Measured
 add-cut c =
-    let s = c .before .before .before .before .before .before .before .before .before in
+    let s = c .before .before .before .before .before .before .before .before .before .before .before .before in
     let D = s .pre .0 in
     let R = s .pre .1 in
-    omega (arith, D .bounded .0 .minus, R .order, R .wide, D .sized .wide)
+    omega (arith, D .measured .0 .minus, R .order, R .wide, D .drawable .readable .sized .wide)
 
 cut-requires : tie.Need-cut-requires
 cut-requires c κs = search needs
 
 add-cut-2 : tie.Need-add-cut-2
-unfolding Bounded
+unfolding Measured
 add-cut-2 c =
-    let s = c .before .before .before .before .before .before .before .before .before .before in
+    let s = c .before .before .before .before .before .before .before .before .before .before .before .before .before .before in
     let D = s .pre .0 in
     let R = s .pre .1 in
-    omega (arith, D .bounded .0 .minus, R .wide, D .sized .wide)
+    omega (arith, D .measured .0 .minus, R .wide, D .drawable .readable .sized .wide)
 
 cut-requires-2 : tie.Need-cut-requires-2
 cut-requires-2 c κs = search needs
@@ -79,40 +80,50 @@ load-requires : tie.Need-load-requires
 unfolding reads
 load-requires c κs =
     let cut2-at = c .before .before in
-    let cut-at = cut2-at .before in
-    let if2-at = cut-at .before in
-    let s = if2-at .before .before .before .before .before .before .before .before .before in
+    let cut-at = cut2-at .before .before in
+    let if2-at = cut-at .before .before in
+    let s = if2-at .before .before .before .before .before .before .before .before .before .before .before in
     let a = s .args in
     let D = s .pre .0 in
     let R = s .pre .1 in
-    let few = cut-few (a .w) (a .from) (a .to) (a .dx .plus) (a .dx .minus) _ _ (R .order) (cut-at .cut .ensures) (cut2-at .cut2 .ensures) in
-    ((D .sized, D .tabled), (omega (arith, if2-at .if2 .left, R .high), cut-order (a .w) (a .from) (a .to) (a .dx .plus) (a .dx .minus) _ _ (R .order) (cut-at .cut .ensures) (cut2-at .cut2 .ensures), cut-wide (a .w) (a .from) (a .to) (a .dx .plus) (a .dx .minus) _ _ (R .order) (cut-at .cut .ensures) (cut2-at .cut2 .ensures), D .earlier .0, omega (arith, s .pre .2, few)))
+    let K = cut-part (a .context .w) (a .dx) (a .part) _ _ (R .order) (cut-at .cut .ensures) (cut2-at .cut2 .ensures) in
+    ((D .drawable .readable, record { high = omega (arith, if2-at .if2 .left, R .high); order = K .0; wide = K .1 }), (D .earlier .0, omega (arith, s .pre .2, K .2)))
 
 start-requires : tie.Need-start-requires
-start-requires c κs = search needs
+start-requires c κs =
+    let s = c .before .before .before .before .before .before .before .before .before .before .before .before .before .before .before .before .before .before .before .before in
+    let D = s .pre .0 in
+    let R = s .pre .1 in
+    (sized-canvas (s .args .context) _ _ (D .drawable .readable .sized), record { high = R .high; order = omega arith; wide = omega arith })
 
 mul-hi : tie.Need-mul-hi
 mul-hi c =
-    let s = c .before .before .before .before .before .before .before .before .before .before .before .before .before .before .before .before .before in
-    omega (arith, s .pre .0 .sized .wide)
+    let s = c .before .before .before .before .before .before .before .before .before .before .before .before .before .before .before .before .before .before .before .before .before in
+    omega (arith, s .pre .0 .drawable .readable .sized .wide)
 
 add-hi : tie.Need-add-hi
 add-hi c =
-    let s = c .before .before .before .before .before .before .before .before .before .before .before .before .before .before .before .before .before in
-    omega (arith, s .pre .0 .sized .wide, c .start .ensures .2)
+    let s = c .before .before .before .before .before .before .before .before .before .before .before .before .before .before .before .before .before .before .before .before .before in
+    omega (arith, s .pre .0 .drawable .readable .sized .wide, c .start .ensures .1 .1)
 
 sub-shift-row : tie.Need-sub-shift-row
-sub-shift-row c = search needs
+sub-shift-row c =
+    let cut2-at = c .before .before .before .before .before .before .before in
+    let cut-at = cut2-at .before .before in
+    let s = cut-at .before .before .before .before .before .before .before .before .before .before .before .before .before in
+    let a = s .args in
+    let R = s .pre .1 in
+    cut-part (a .context .w) (a .dx) (a .part) _ _ (R .order) (cut-at .cut .ensures) (cut2-at .cut2 .ensures) .0
 
 add-shift-row : tie.Need-add-shift-row
-unfolding Bounded
+unfolding Measured
 add-shift-row c =
-    let cut-at = c .before .before .before .before .before .before .before .before in
-    let s = cut-at .before .before .before .before .before .before .before .before .before .before in
+    let cut-at = c .before .before .before .before .before .before .before .before .before in
+    let s = cut-at .before .before .before .before .before .before .before .before .before .before .before .before .before in
     let a = s .args in
     let D = s .pre .0 in
     let R = s .pre .1 in
-    let small = shift-small (a .dx) (a .w) (a .from) _ (D .bounded .0) (D .sized .wide) (omega (arith, R .order, R .wide)) (cut-at .cut .ensures) in
+    let small = shift-small (a .dx) (a .context .w) (a .part .from) _ (D .measured .0) (D .drawable .readable .sized .wide) (omega (arith, R .order, R .wide)) (cut-at .cut .ensures) in
     omega (arith, small)
 
 sub-shift-row-2 : tie.Need-sub-shift-row-2
@@ -123,27 +134,26 @@ part-shift-row-start c = search needs
 
 part-shift-row-end : tie.Need-part-shift-row-end
 part-shift-row-end c =
-    let s = c .before .before .before .before .before .before .before .before .before .before .before .before .before .before .before .before .before .before in
-    omega (arith, s .pre .0 .sized .workspace, c .before .start .ensures .1)
+    let s = c .before .before .before .before .before .before .before .before .before .before .before .before .before .before .before .before .before .before .before .before .before .before in
+    omega (arith, s .pre .0 .drawable .readable .sized .workspace, c .before .start .ensures .1 .0)
 
 shift-row-requires : tie.Need-shift-row-requires
-unfolding Bounded
+unfolding Measured
 shift-row-requires c κs =
     let start-at = c .before .before in
     let load-at = start-at .before .before .before in
     let cut2-at = load-at .before .before .before in
-    let cut-at = cut2-at .before in
-    let s = cut-at .before .before .before .before .before .before .before .before .before .before in
+    let cut-at = cut2-at .before .before in
+    let s = cut-at .before .before .before .before .before .before .before .before .before .before .before .before .before in
     let a = s .args in
     let D = s .pre .0 in
     let R = s .pre .1 in
-    let few = cut-few (a .w) (a .from) (a .to) (a .dx .plus) (a .dx .minus) _ _ (R .order) (cut-at .cut .ensures) (cut2-at .cut2 .ensures) in
-    let wide = cut-wide (a .w) (a .from) (a .to) (a .dx .plus) (a .dx .minus) _ _ (R .order) (cut-at .cut .ensures) (cut2-at .cut2 .ensures) in
-    let small = shift-small (a .dx) (a .w) (a .from) _ (D .bounded .0) (D .sized .wide) (omega (arith, R .order, R .wide)) (cut-at .cut .ensures) in
-    let fits : start-at .start .result + 4 * a .w ≤ length (a .workspace .now) = omega (arith, start-at .start .ensures .1, D .sized .workspace) in
-    let long = part-long (start-at .start .result) (a .w) (a .workspace .now) fits in (
-      (omega (arith, few, load-at .load .ensures .long, s .pre .2), omega (arith, wide, D .sized .wide), small, D .bounded .0 .minus),
-      (R .order, omega (arith, R .wide, D .sized .wide), omega (arith, long, R .wide)),
+    let K = cut-part (a .context .w) (a .dx) (a .part) _ _ (R .order) (cut-at .cut .ensures) (cut2-at .cut2 .ensures) in
+    let small = shift-small (a .dx) (a .context .w) (a .part .from) _ (D .measured .0) (D .drawable .readable .sized .wide) (omega (arith, R .order, R .wide)) (cut-at .cut .ensures) in
+    let fits : start-at .start .result + 4 * a .context .w ≤ length (a .workspace .now) = omega (arith, start-at .start .ensures .1 .0, D .drawable .readable .sized .workspace) in
+    let long = part-long (start-at .start .result) (a .context .w) (a .workspace .now) fits in (
+      (omega (arith, K .2, load-at .load .ensures .long, s .pre .2), omega (arith, K .1, D .drawable .readable .sized .wide), small, D .measured .0 .minus),
+      (R .order, omega (arith, R .wide, D .drawable .readable .sized .wide), omega (arith, long, R .wide)),
     )
 
 same-length-3 : tie.Need-same-length-3
@@ -153,21 +163,21 @@ same-length-4 : tie.Need-same-length-4
 same-length-4 c = search needs
 
 returns-3 : tie.Need-returns-3
-unfolding work
+unfolding workOf
 returns-3 c =
     let shift-row-at = c .before .before in
     let start-at = shift-row-at .before .before .before in
     let load-at = start-at .before .before .before in
     let cut2-at = load-at .before .before .before in
-    let cut-at = cut2-at .before in
-    let if1-at = cut-at .before .before .before in
-    let s = if1-at .before .before .before .before .before .before .before in
+    let cut-at = cut2-at .before .before in
+    let if1-at = cut-at .before .before .before .before .before in
+    let s = if1-at .before .before .before .before .before .before .before .before in
     let a = s .args in
     let D = s .pre .0 in
     let R = s .pre .1 in
-    let fits : start-at .start .result + 4 * a .w ≤ length (a .workspace .now) = omega (arith, start-at .start .ensures .1, D .sized .workspace) in (
-      painted-row (start-at .start .result) (a .w) (a .workspace .now) fits _ _ _ _ _ _ (start-at .start .ensures .0) (R .order) (R .wide)
-          (moved-shifted (a .dx) (a .dy) _ (a .w) (a .h) (a .y) _ (a .from) (a .to) _ _ _ _ (shown-blank (a .lens) _ _ _ _ (a .i)) (R .order) (cut-at .cut .ensures) (cut2-at .cut2 .ensures) (if1-at .if1 .left) refl (load-at .load .ensures))
+    let fits : start-at .start .result + 4 * a .context .w ≤ length (a .workspace .now) = omega (arith, start-at .start .ensures .1 .0, D .drawable .readable .sized .workspace) in (
+      painted-row (start-at .start .result) (a .context .w) (a .workspace .now) fits _ _ _ _ _ _ (start-at .start .ensures .0) (R .order) (R .wide)
+          (moved-shifted (a .dx) (a .dy) _ (a .context .w) (a .context .h) (a .part .y) _ (a .part .from) (a .part .to) _ _ _ _ (shown-blank (a .context) _ _ (a .i)) (R .order) (cut-at .cut .ensures) (cut2-at .cut2 .ensures) (if1-at .if1 .left) refl (load-at .load .ensures))
           (shift-row-at .shift-row .ensures),
       record { long = load-at .load .ensures .long },
     )

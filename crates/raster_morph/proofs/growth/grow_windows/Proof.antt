@@ -35,9 +35,9 @@ loop-holds c = record {
   place = inl (refl, refl);
   low = omega arith;
   high = omega arith;
-  room-here = c .before .pre .0;
-  room-there = c .before .pre .1;
-  apart = c .before .pre .2;
+  room-here = c .before .pre .0 .0;
+  room-there = c .before .pre .0 .1;
+  apart = c .before .pre .0 .2;
 }
 
 add-loop : tie.Need-add-loop Inv-loop μ-loop
@@ -51,7 +51,7 @@ widen-requires c κs =
     let I = c .before .before .loop .inv in
     let p = c .before .before .before .before .pre in
     let l = I .lines .long in
-    ((omega (arith, l, I .room-here), omega (arith, l, I .room-there), I .apart), (I .low, I .high, p .3, p .4, p .5, p .6))
+    ((omega (arith, l, I .room-here), omega (arith, l, I .room-there), I .apart), (I .low, I .high, p .1 .0, p .1 .1, p .1 .2, p .1 .3))
 
 loop-less : tie.Need-loop-less Inv-loop μ-loop
 loop-less c =

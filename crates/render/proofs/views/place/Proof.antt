@@ -4,7 +4,7 @@ use Prim.Native.Nat.{ℕ, _*_}
 use native.Mathlib.Omega.{arith}
 use native.Mathlib.Nat.{mul-le-mul-right}
 use borrow.Author.Tests.{not-true, not-false}
-use Rattle.plan.proofs.Acceptance.{canvas-within, count-within}
+use Rattle.checks.proofs.Acceptance.{canvas-within, count-within}
 use Rattle.render.proofs.Places.{bad-canvas, bad-count, bad-length, bad-layer, good-layer, layer-ends}
 use borrow.Author.Needs.{needs}
 use Rattle.render.proofs.views.place.Statement.{statement}

@@ -2,7 +2,7 @@
 use mathlib.Core.Path.{sym, ap}
 use mathlib.Core.Bool.{Bool, cond}
 use Rattle.pixel.specs.declared.Space.the-variants.{Srgb, Linear}
-use Rattle.stage.specs.Shown.{spacesIn}
+use Rattle.stage.specs.Shown.{spacesBy}
 use borrow.Author.Needs.{needs}
 use Rattle.stage.proofs.spaces.layer_space.Statement.{statement}
 use Rattle.stage.proofs.spaces.layer_space.Tie as tie
@@ -11,11 +11,11 @@ element-copy-out-if1 : tie.Need-element-copy-out-if1
 element-copy-out-if1 c = search needs
 
 returns : tie.Need-returns
-unfolding spacesIn
+unfolding spacesBy
 returns c = sym (ap (λ (b : Bool). cond b Linear Srgb) (c .if1 .taken))
 
 returns-2 : tie.Need-returns-2
-unfolding spacesIn
+unfolding spacesBy
 returns-2 c = sym (ap (λ (b : Bool). cond b Linear Srgb) (c .if1 .left))
 
 pub layer-space-spec : {M : Type 1} → statement M

@@ -1,33 +1,62 @@
--- `text_step::kinds::bytes_given` meets its contract. The three fields. Assumes nothing.
+-- `text_step::kinds::bytes_given` meets its contract. By the kind's shape. Assumes nothing.
+use mathlib.Core.Path.{_∙_}
 use borrow.Author.Needs.{needs}
 use Rattle.text_step.proofs.kinds.bytes_given.Statement.{statement}
 use Rattle.text_step.proofs.kinds.bytes_given.Tie as tie
 
-byte-given-requires : tie.Need-byte-given-requires
-byte-given-requires c κs = search needs
+enum-told : tie.Need-enum-told
+enum-told c = search needs
 
-byte-given-requires-2 : tie.Need-byte-given-requires-2
-byte-given-requires-2 c κs = search needs
+colour-given-requires : tie.Need-colour-given-requires
+colour-given-requires c κs = search needs
 
-byte-given-requires-3 : tie.Need-byte-given-requires-3
-byte-given-requires-3 c κs = search needs
+enum-told-2 : tie.Need-enum-told-2
+enum-told-2 c = search needs
 
-both-requires : tie.Need-both-requires
-both-requires c κs = search needs
+enum-told-3 : tie.Need-enum-told-3
+enum-told-3 c = search needs
 
-both-requires-2 : tie.Need-both-requires-2
-both-requires-2 c κs = search needs
+enum-told-4 : tie.Need-enum-told-4
+enum-told-4 c = search needs
+
+enum-told-5 : tie.Need-enum-told-5
+enum-told-5 c = search needs
+
+enum-told-6 : tie.Need-enum-told-6
+enum-told-6 c = search needs
 
 returns : tie.Need-returns
-returns c = cc
+returns c = c .colour-given .ensures ∙ rw (c .before .enum-told .given .1)
+
+returns-2 : tie.Need-returns-2
+returns-2 c = search needs
+
+returns-3 : tie.Need-returns-3
+returns-3 c = search needs
+
+returns-4 : tie.Need-returns-4
+returns-4 c = search needs
+
+returns-5 : tie.Need-returns-5
+returns-5 c = search needs
+
+returns-6 : tie.Need-returns-6
+returns-6 c = search needs
 
 pub bytes-given-spec : {M : Type 1} → statement M
 bytes-given-spec =
     tie.close
     (tie.spec
-    byte-given-requires
-    byte-given-requires-2
-    byte-given-requires-3
-    both-requires
-    both-requires-2
-    returns)
+    enum-told
+    colour-given-requires
+    enum-told-2
+    enum-told-3
+    enum-told-4
+    enum-told-5
+    enum-told-6
+    returns
+    returns-2
+    returns-3
+    returns-4
+    returns-5
+    returns-6)

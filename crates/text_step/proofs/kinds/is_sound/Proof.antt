@@ -1,106 +1,38 @@
--- `text_step::kinds::is_sound` meets its contract. By cases on the kind. Assumes nothing.
-use mathlib.Core.Path.{_∙_}
+-- `text_step::kinds::is_sound` meets its contract. The row is the kind's. Assumes nothing.
+use Rattle.text_field.specs.Split.{split}
+use Rattle.text_step.proofs.Assembled.{sound-is}
 use borrow.Author.Needs.{needs}
 use Rattle.text_step.proofs.kinds.is_sound.Statement.{statement}
 use Rattle.text_step.proofs.kinds.is_sound.Tie as tie
 
-enum-told : tie.Need-enum-told
-enum-told c = search needs
+both-requires : tie.Need-both-requires
+both-requires c κs = search needs
+
+number-count-requires : tie.Need-number-count-requires
+number-count-requires c κs = search needs
 
 bytes-given-requires : tie.Need-bytes-given-requires
 bytes-given-requires c κs = search needs
 
-enum-told-2 : tie.Need-enum-told-2
-enum-told-2 c = search needs
+both-requires-2 : tie.Need-both-requires-2
+both-requires-2 c κs = search needs
 
-enum-told-3 : tie.Need-enum-told-3
-enum-told-3 c = search needs
-
-enum-told-4 : tie.Need-enum-told-4
-enum-told-4 c = search needs
-
-enum-told-5 : tie.Need-enum-told-5
-enum-told-5 c = search needs
-
-enum-told-6 : tie.Need-enum-told-6
-enum-told-6 c = search needs
-
-enum-told-7 : tie.Need-enum-told-7
-enum-told-7 c = search needs
-
-enum-told-8 : tie.Need-enum-told-8
-enum-told-8 c = search needs
-
-enum-told-9 : tie.Need-enum-told-9
-enum-told-9 c = search needs
-
-enum-told-10 : tie.Need-enum-told-10
-enum-told-10 c = search needs
-
-enum-known-kind : tie.Need-enum-known-kind
-enum-known-kind c = search needs
-
-both-requires : tie.Need-both-requires
-both-requires c κs = search needs
+both-requires-3 : tie.Need-both-requires-3
+both-requires-3 c κs = search needs
 
 returns : tie.Need-returns
-returns c = c .bytes-given .ensures ∙ rw (c .before .enum-told .given .1)
-
-returns-2 : tie.Need-returns-2
-returns-2 c = search needs
-
-returns-3 : tie.Need-returns-3
-returns-3 c = search needs
-
-returns-4 : tie.Need-returns-4
-returns-4 c = search needs
-
-returns-5 : tie.Need-returns-5
-returns-5 c = search needs
-
-returns-6 : tie.Need-returns-6
-returns-6 c = search needs
-
-returns-7 : tie.Need-returns-7
-returns-7 c = search needs
-
-returns-8 : tie.Need-returns-8
-returns-8 c = search needs
-
-returns-9 : tie.Need-returns-9
-returns-9 c = search needs
-
-returns-10 : tie.Need-returns-10
-returns-10 c = search needs
-
-returns-11 : tie.Need-returns-11
-returns-11 c = c .both .ensures ∙ rw (c .before .before .kind .given .1)
+returns c =
+    let p = c .before .before .before .before in
+    let s = p .before .before .before .before in
+    sound-is (s .args .kind) (split 9 (s .args .line .now)) (s .pre) (p .both .ensures) (c .before .before .before .number-count .ensures) (c .before .before .bytes-given .ensures) (c .before .both2 .ensures) (c .both3 .ensures)
 
 pub is-sound-spec : {M : Type 1} → statement M
 is-sound-spec =
     tie.close
     (tie.spec
-    enum-told
-    bytes-given-requires
-    enum-told-2
-    enum-told-3
-    enum-told-4
-    enum-told-5
-    enum-told-6
-    enum-told-7
-    enum-told-8
-    enum-told-9
-    enum-told-10
-    enum-known-kind
     both-requires
-    returns
-    returns-2
-    returns-3
-    returns-4
-    returns-5
-    returns-6
-    returns-7
-    returns-8
-    returns-9
-    returns-10
-    returns-11)
+    number-count-requires
+    bytes-given-requires
+    both-requires-2
+    both-requires-3
+    returns)

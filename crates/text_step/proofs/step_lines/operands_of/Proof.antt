@@ -2,6 +2,7 @@
 use mathlib.Core.Path.{_≡_, refl, sym, ap, _∙_}
 use Prim.Native.Nat.{_-_}
 use lib.ListN.{length, take, drop, length-set}
+use Rattle.filter.specs.Limits.{mostNumbers}
 use Rattle.filter.specs.Steps.{noOperand}
 use Rattle.text_field.specs.Split.{split}
 use Rattle.text_field.specs.Field.{numberOf}
@@ -16,14 +17,14 @@ use Rattle.text_step.proofs.step_lines.operands_of.Statement.{statement
 use Rattle.text_step.proofs.step_lines.operands_of.Tie as tie
 
 abbrev Inv-loop : tie.InvT-loop
-Inv-loop line at n zero operands₀ i₀ operands i = (zero ≡ noOperand) × Gathered number? operandOf (padded 20 noOperand) (take n (drop at (split 9 line))) n i operands × (length operands ≡ 20)
+Inv-loop line at n zero operands₀ i₀ operands i = (zero ≡ noOperand) × Gathered number? operandOf (padded mostNumbers noOperand) (take n (drop at (split 9 line))) n i operands × (length operands ≡ mostNumbers)
 
 abbrev μ-loop : tie.MeasureT-loop
 μ-loop line at n zero operands₀ i₀ operands i = n - i
 
 loop-holds : tie.Need-loop-holds Inv-loop μ-loop
 loop-holds c =
-    (refl, gathered-none number? operandOf (padded 20 noOperand) _ _ (fields-long (split 9 (c .before .args .line .now)) (c .before .args .at) (c .before .args .n) (search needs)) (padded-none 20 noOperand), refl)
+    (refl, gathered-none number? operandOf (padded mostNumbers noOperand) _ _ (fields-long (split 9 (c .before .args .line .now)) (c .before .args .at) (c .before .args .n) (search needs)) (padded-none mostNumbers noOperand), refl)
 
 add-field : tie.Need-add-field Inv-loop μ-loop
 add-field c = omega (arith, split-le 9 (c .before .before .before .args .line .now))
@@ -51,7 +52,7 @@ returns c =
     let b = c .before .before .before .before .before in
     let e = field-of (split 9 (b .before .before .args .line .now)) (b .before .before .args .at) (b .before .before .args .n) (b .loop .i) (search needs) in
     let q = sym (ap numberOf (c .before .before .before .field .ensures)) ∙ sym (c .before .before .number-of .ensures) ∙ c .enum-told .given .1 in
-    operands-bad _ (gathered-bad number? operandOf (padded 20 noOperand) _ _ _ _ (b .loop .inv .1) (search needs) (ap number? e ∙ ap formed q))
+    operands-bad _ (gathered-bad number? operandOf (padded mostNumbers noOperand) _ _ _ _ (b .loop .inv .1) (search needs) (ap number? e ∙ ap formed q))
 
 add-i : tie.Need-add-i Inv-loop μ-loop
 add-i c = search needs
@@ -64,10 +65,10 @@ loop-again c =
     let b = c .before .before .before .before .before .before in
     let e = field-of (split 9 (b .before .before .args .line .now)) (b .before .before .args .at) (b .before .before .args .n) (b .loop .i) (search needs) in
     let q = sym (ap numberOf (c .before .before .before .before .field .ensures)) ∙ sym (c .before .before .before .number-of .ensures) ∙ c .before .x .given .1 in
-    (refl, array-more number? operandOf 20 noOperand _ _ _ _ _ (b .loop .inv .1) (search needs) (search needs) (ap number? e ∙ ap formed q) (ap operandOf e ∙ ap operandIn q), simp length-set (b .loop .inv .2))
+    (refl, array-more number? operandOf mostNumbers noOperand _ _ _ _ _ (b .loop .inv .1) (search needs) (search needs) (ap number? e ∙ ap formed q) (ap operandOf e ∙ ap operandIn q), simp length-set (b .loop .inv .2))
 
 returns-2 : tie.Need-returns-2 Inv-loop μ-loop
-returns-2 c = operands-end _ (gathered-all number? operandOf (padded 20 noOperand) _ _ _ _ (c .before .loop .inv .1) (search needs))
+returns-2 c = operands-end _ (gathered-all number? operandOf (padded mostNumbers noOperand) _ _ _ _ (c .before .loop .inv .1) (search needs))
 
 pub operands-of-spec : {M : Type 1} → statement M
 operands-of-spec =

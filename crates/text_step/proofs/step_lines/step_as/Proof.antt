@@ -1,4 +1,4 @@
--- `text_step::step_lines::step_as` meets its contract. A sound kind has at most 4 inputs, so that the count of fields fits. Assumes nothing.
+-- `text_step::step_lines::step_as` meets its contract. A sound kind has few inputs and numbers, so that the count of fields fits. Assumes nothing.
 use mathlib.Core.Path.{refl, sym, _∙_}
 use borrow.Author.Tests.{not-true, not-false}
 use native.Mathlib.Omega.{arith}
@@ -7,6 +7,9 @@ use Rattle.text_step.proofs.Assembled.{few-fields, as-unsound, as-open,
 use borrow.Author.Needs.{needs}
 use Rattle.text_step.proofs.step_lines.step_as.Statement.{statement}
 use Rattle.text_step.proofs.step_lines.step_as.Tie as tie
+
+signature-of-requires : tie.Need-signature-of-requires
+signature-of-requires c κs = search needs
 
 is-sound-requires : tie.Need-is-sound-requires
 is-sound-requires c κs = search needs
@@ -17,34 +20,28 @@ no-step-requires c κs = search needs
 returns : tie.Need-returns
 returns c = as-unsound _ _ (c .before .before .is-sound .ensures) (not-true _ (c .before .if1 .taken)) (c .no-step .ensures)
 
-byte-count-requires : tie.Need-byte-count-requires
-byte-count-requires c κs = search needs
-
-input-count-requires : tie.Need-input-count-requires
-input-count-requires c κs = search needs
-
 number-count-requires : tie.Need-number-count-requires
 number-count-requires c κs = search needs
 
 add-fields : tie.Need-add-fields
 add-fields c =
-    let f = few-fields (c .before .before .before .before .before .before .args .kind) _ (c .before .before .before .before .is-sound .ensures) (not-false _ (c .before .before .before .if1 .left)) (c .before .before .byte-count .ensures) (c .before .input-count .ensures) (c .number-count .ensures) in
-    omega (arith, f .1)
+    let f = few-fields (c .before .before .before .before .before .args .kind) _ (c .before .before .before .signature-of .ensures) (c .before .before .is-sound .ensures) (not-false _ (c .before .if1 .left)) (c .number-count .ensures) in
+    omega (arith, f .2)
 
 add-fields-2 : tie.Need-add-fields-2
 add-fields-2 c =
-    let f = few-fields (c .before .before .before .before .before .before .args .kind) _ (c .before .before .before .before .is-sound .ensures) (not-false _ (c .before .before .before .if1 .left)) (c .before .before .byte-count .ensures) (c .before .input-count .ensures) (c .number-count .ensures) in
-    omega (arith, f .1)
+    let f = few-fields (c .before .before .before .before .before .args .kind) _ (c .before .before .before .signature-of .ensures) (c .before .before .is-sound .ensures) (not-false _ (c .before .if1 .left)) (c .number-count .ensures) in
+    omega (arith, f .2)
 
 add-fields-3 : tie.Need-add-fields-3
 add-fields-3 c =
-    let f = few-fields (c .before .before .before .before .before .before .args .kind) _ (c .before .before .before .before .is-sound .ensures) (not-false _ (c .before .before .before .if1 .left)) (c .before .before .byte-count .ensures) (c .before .input-count .ensures) (c .number-count .ensures) in
-    omega (arith, f .1)
+    let f = few-fields (c .before .before .before .before .before .args .kind) _ (c .before .before .before .signature-of .ensures) (c .before .before .is-sound .ensures) (not-false _ (c .before .if1 .left)) (c .number-count .ensures) in
+    omega (arith, f .2)
 
 is-closed-requires : tie.Need-is-closed-requires
 is-closed-requires c κs =
-    let f = few-fields (c .before .before .before .before .before .before .args .kind) _ (c .before .before .before .before .is-sound .ensures) (not-false _ (c .before .before .before .if1 .left)) (c .before .before .byte-count .ensures) (c .before .input-count .ensures) (c .number-count .ensures) in
-    (c .before .before .before .before .before .before .pre, f .1)
+    let f = few-fields (c .before .before .before .before .before .args .kind) _ (c .before .before .before .signature-of .ensures) (c .before .before .is-sound .ensures) (not-false _ (c .before .if1 .left)) (c .number-count .ensures) in
+    (c .before .before .before .before .before .pre, f .2)
 
 no-step-requires-2 : tie.Need-no-step-requires-2
 no-step-requires-2 c κs = search needs
@@ -52,7 +49,7 @@ no-step-requires-2 c κs = search needs
 returns-2 : tie.Need-returns-2
 returns-2 c =
     let p = c .before .before .before in
-    as-open _ _ (p .before .before .before .before .is-sound .ensures) (p .before .before .byte-count .ensures) (p .before .input-count .ensures) (p .number-count .ensures .0) refl (c .before .before .is-closed .ensures) (not-true _ (c .before .if2 .taken)) (c .no-step2 .ensures)
+    as-open _ _ (p .before .before .is-sound .ensures) (p .before .before .before .signature-of .ensures) (p .number-count .ensures) refl (c .before .before .is-closed .ensures) (not-true _ (c .before .if2 .taken)) (c .no-step2 .ensures)
 
 region-given-requires : tie.Need-region-given-requires
 region-given-requires c κs = search needs
@@ -63,32 +60,34 @@ region-of-requires c κs = search needs
 add-wires-of : tie.Need-add-wires-of
 add-wires-of c =
     let p = c .before .before .before .before in
-    let f = few-fields (p .before .before .before .before .before .before .args .kind) _ (p .before .before .before .before .is-sound .ensures) (not-false _ (p .before .before .before .if1 .left)) (p .before .before .byte-count .ensures) (p .before .input-count .ensures) (p .number-count .ensures) in
-    omega (arith, f .1)
+    let f = few-fields (p .before .before .before .before .before .args .kind) _ (p .before .before .before .signature-of .ensures) (p .before .before .is-sound .ensures) (not-false _ (p .before .if1 .left)) (p .number-count .ensures) in
+    omega (arith, f .2)
 
 wires-of-requires : tie.Need-wires-of-requires
 wires-of-requires c κs =
     let p = c .before .before .before .before in
-    let f = few-fields (p .before .before .before .before .before .before .args .kind) _ (p .before .before .before .before .is-sound .ensures) (not-false _ (p .before .before .before .if1 .left)) (p .before .before .byte-count .ensures) (p .before .input-count .ensures) (p .number-count .ensures) in
+    let f = few-fields (p .before .before .before .before .before .args .kind) _ (p .before .before .before .signature-of .ensures) (p .before .before .is-sound .ensures) (not-false _ (p .before .if1 .left)) (p .number-count .ensures) in
     let l = closed-long _ _ (sym (c .before .before .before .is-closed .ensures) ∙ not-false _ (c .before .before .if2 .left)) in
     (f .0, omega (arith, l))
 
 add-operands-of : tie.Need-add-operands-of
 add-operands-of c =
     let p = c .before .before .before .before .before in
-    let f = few-fields (p .before .before .before .before .before .before .args .kind) _ (p .before .before .before .before .is-sound .ensures) (not-false _ (p .before .before .before .if1 .left)) (p .before .before .byte-count .ensures) (p .before .input-count .ensures) (p .number-count .ensures) in
-    omega (arith, f .1)
+    let f = few-fields (p .before .before .before .before .before .args .kind) _ (p .before .before .before .signature-of .ensures) (p .before .before .is-sound .ensures) (not-false _ (p .before .if1 .left)) (p .number-count .ensures) in
+    omega (arith, f .2)
 
 add-operands-of-2 : tie.Need-add-operands-of-2
 add-operands-of-2 c =
     let p = c .before .before .before .before .before in
-    let f = few-fields (p .before .before .before .before .before .before .args .kind) _ (p .before .before .before .before .is-sound .ensures) (not-false _ (p .before .before .before .if1 .left)) (p .before .before .byte-count .ensures) (p .before .input-count .ensures) (p .number-count .ensures) in
-    omega (arith, f .1)
+    let f = few-fields (p .before .before .before .before .before .args .kind) _ (p .before .before .before .signature-of .ensures) (p .before .before .is-sound .ensures) (not-false _ (p .before .if1 .left)) (p .number-count .ensures) in
+    omega (arith, f .2)
 
 operands-of-requires : tie.Need-operands-of-requires
 operands-of-requires c κs =
+    let p = c .before .before .before .before .before in
+    let f = few-fields (p .before .before .before .before .before .args .kind) _ (p .before .before .before .signature-of .ensures) (p .before .before .is-sound .ensures) (not-false _ (p .before .if1 .left)) (p .number-count .ensures) in
     let l = closed-long _ _ (sym (c .before .before .before .before .is-closed .ensures) ∙ not-false _ (c .before .before .before .if2 .left)) in
-    (c .before .before .before .before .before .number-count .ensures .1, l)
+    (f .1, l)
 
 space-at-requires : tie.Need-space-at-requires
 space-at-requires c κs = search needs
@@ -99,17 +98,18 @@ assemble-requires c κs = search needs
 returns-3 : tie.Need-returns-3
 returns-3 c =
     let p = c .before .before .before .before .before .before .before .before in
-    as-good _ _ (p .before .before .before .before .is-sound .ensures) (p .before .before .byte-count .ensures) (p .before .input-count .ensures) (p .number-count .ensures .0) refl (c .before .before .before .before .before .before .before .is-closed .ensures) (not-false _ (p .before .before .before .if1 .left)) (not-false _ (c .before .before .before .before .before .before .if2 .left)) (c .before .before .before .before .before .region-given .ensures) (c .before .before .before .before .region-of .ensures) (c .before .before .before .wires-of .ensures) (c .before .before .operands-of .ensures) (c .before .space-at .ensures) (c .assemble .ensures)
+    as-good _ _ (p .before .before .is-sound .ensures) (p .before .before .before .signature-of .ensures) (p .number-count .ensures) refl (c .before .before .before .before .before .before .before .is-closed .ensures)
+    (not-false _ (p .before .if1 .left)) (not-false _ (c .before .before .before .before .before .before .if2 .left)) (c .before .before .before .before .before .region-given .ensures) (c .before .before .before .before .region-of .ensures)
+    (c .before .before .before .wires-of .ensures) (c .before .before .operands-of .ensures) (c .before .space-at .ensures) (c .assemble .ensures)
 
 pub step-as-spec : {M : Type 1} → statement M
 step-as-spec =
     tie.close
     (tie.spec
+    signature-of-requires
     is-sound-requires
     no-step-requires
     returns
-    byte-count-requires
-    input-count-requires
     number-count-requires
     add-fields
     add-fields-2

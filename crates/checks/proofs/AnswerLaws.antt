@@ -1,0 +1,59 @@
+-- The tests of the refusal table in code: accepted answers, the first refusal, and the fold over inputs, numbers and steps. Assumes nothing.
+use Prim.Native.Nat.{ℕ, _+_, _-_, _≤_, _<_}
+use mathlib.Core.Path.{_≡_, refl, sym, ap₂, _∙_}
+use mathlib.Core.Bool.{Bool, true, false, _&&_}
+use native.Mathlib.Numerals.{add-one}
+use native.Mathlib.Omega.{arith}
+use lib.Dec.{leb, eqb}
+use borrow.Author.Tests.{leb-true, leb-false, le-leb, lt-leb}
+use Rattle.filter.specs.declared.Signature.{Signature}
+use Rattle.filter.specs.declared.Step.{Step}
+use Rattle.filter.specs.declared.Answer as A
+use Rattle.filter.specs.declared.Answer.the-variants.{Done, Input, OutsideCanvas}
+use Rattle.filter.specs.Answers.{numberOf, accepted?}
+use Rattle.filter.specs.Signature.{signatureOf, inputsOf}
+use Rattle.filter.specs.Steps.{inputAt}
+use Rattle.filter.proofs.Earlier.{both-true}
+use Rattle.filter.specs.Checks.{unless, orElse, firstOf, all, allowed?, merges?, inputs?, numbersAnswer, onCanvas?, stepAnswer}
+
+pub accepted-zero : (a : A.Answer) → eqb (numberOf a) 0 ≡ accepted? a
+unfolding accepted?
+accepted-zero a = refl
+
+-- check 7 of a step comes first; the first refusal of the others
+pub step-refused : (w h n : ℕ) (s : Step) → inputs? n s ≡ false → Input n ≡ stepAnswer w h n s
+unfolding stepAnswer
+step-refused w h n s e = rw e
+
+pub step-is : (w h n : ℕ) (s : Step) (o : A.Answer) → inputs? n s ≡ true → o ≡ orElse (numbersAnswer n s) (unless (onCanvas? w h (s .region)) (OutsideCanvas n) Done) → o ≡ stepAnswer w h n s
+unfolding stepAnswer
+step-is w h n s o e p = rw e p
+
+-- one more of a fold
+pub all-more : (f : ℕ → Bool) (i : ℕ) (g b o : Bool) → g ≡ all f i → b ≡ f i → o ≡ (g && b) → o ≡ all f (i + 1)
+unfolding all
+all-more f i g b o p q e = rw add-one (e ∙ ap₂ _&&_ p q)
+
+pub first-more : (f : ℕ → A.Answer) (i : ℕ) (a b o : A.Answer) → a ≡ firstOf f i → b ≡ f i → o ≡ orElse a b → o ≡ firstOf f (i + 1)
+unfolding firstOf
+first-more f i a b o p q e = rw add-one (e ∙ ap₂ orElse p q)
+
+-- 7
+pub inputs-few : (r : Signature) → merges? r ≡ true → r .inputs ≤ 4
+inputs-few r e = leb-true (r .inputs) 4 (both-true (leb (r .least) (r .inputs)) (leb (r .inputs) 4) e .1)
+
+pub inputs-refused : (n : ℕ) (s : Step) → merges? (signatureOf (s .kind)) ≡ false → false ≡ inputs? n s
+unfolding inputs?
+inputs-refused n s e = rw e
+
+pub inputs-are : (n : ℕ) (s : Step) (o : Bool) → merges? (signatureOf (s .kind)) ≡ true → o ≡ all (λ i. allowed? n (inputAt s i)) (inputsOf (s .kind)) → o ≡ inputs? n s
+unfolding inputs?
+inputs-are n s o e p = rw e p
+
+-- 13: the sum is within the limit, tested without adding
+pub ends-by : (at long limit : ℕ) → at ≤ limit → leb long (limit - at) ≡ leb (at + long) limit
+ends-by at long limit h = go (leb long (limit - at)) refl
+  where
+    go : (b : Bool) → leb long (limit - at) ≡ b → b ≡ leb (at + long) limit
+    go true e = let l : long ≤ limit - at = leb-true long (limit - at) e in sym (le-leb (at + long) limit (omega arith))
+    go false e = let l : limit - at < long = leb-false long (limit - at) e in sym (lt-leb (at + long) limit (omega arith))

@@ -1,0 +1,30 @@
+-- `damage::damage::ahead` meets its contract, pass by pass. Assumes nothing.
+use borrow.Author.Needs.{needs}
+use Rattle.damage.proofs.damage.ahead.Statement.{statement}
+use Rattle.damage.proofs.damage.ahead.Tie as tie
+
+enum-told : tie.Need-enum-told
+enum-told c = search needs
+
+spread-of-requires : tie.Need-spread-of-requires
+spread-of-requires c κs = rw (c .enum-told .given .1) at (c .before .before .pre)
+
+enum-told-2 : tie.Need-enum-told-2
+enum-told-2 c = search needs
+
+enum-told-3 : tie.Need-enum-told-3
+enum-told-3 c = search needs
+
+returns : tie.Need-returns
+returns c = rw (c .before .enum-told .given .1) (c .spread-of .ensures .0)
+
+returns-2 : tie.Need-returns-2
+returns-2 c = rw (c .enum-told2 .given .1)
+
+returns-3 : tie.Need-returns-3
+returns-3 c = rw (c .enum-told3 .given .1)
+
+pub ahead-spec : {M : Type 1} → statement M
+ahead-spec =
+    tie.close
+    (tie.spec enum-told spread-of-requires enum-told-2 enum-told-3 returns returns-2 returns-3)

@@ -1,0 +1,176 @@
+// Which part is redrawn (RULES 6.3): the rectangle of each step.
+use super::rectangle::canvas;
+use super::rectangle::join;
+use super::rectangle::meet;
+use super::rectangle::none;
+use super::rectangle::shift;
+use super::rectangle::widen;
+use filter::Input;
+use filter::Inputs;
+use filter::Pass;
+use filter::Rect;
+use filter::Shape;
+use filter::Sheet;
+use filter::Shift;
+use window::spread_of;
+ghost use mathlib.Core.Path.{_≡_};
+ghost use mathlib.Core.Bool.{cond};
+ghost use mathlib.Core.List.{[], _∷_, map};
+ghost use Prim.Native.Nat.{_≤_};
+ghost use lib.ListN.{getD};
+ghost use Rattle.filter.specs.Rect.{canvasOf, empty, meet as met, join as joined};
+ghost use Rattle.filter.specs.Reach.{window, still, moved, grow};
+ghost use Rattle.filter.specs.Kinds.{backOf, aheadOf, sight, here, around, firstInputs, reads};
+ghost use Rattle.filter.specs.Layers.{reached as reachedBy};
+ghost use Rattle.filter.specs.Accepted.{Within, Near, mostOf, Measured};
+ghost use Rattle.filter.specs.Limits.{longestSide};
+ghost use Rattle.damage.specs.Damage.{rectOf, AllWithin};
+
+// The rectangle of an input.
+fn rect_at(input: Input, named: Rect, rects: [Rect; Sheet::STEPS]) -> Rect
+    ensures { λ o. ⌜ o ≡ rectOf named rects input ⌝ }
+{
+    match input {
+        Input::Source => named,
+        Input::SourceAlpha => named,
+        Input::Layer(k) => layer_rect(k, rects),
+    }
+}
+
+// Empty for a layer that a sheet cannot have.
+fn layer_rect(k: usize, rects: [Rect; Sheet::STEPS]) -> Rect
+    ensures { λ o. ⌜ o ≡ getD rects k empty ⌝ }
+{
+    if k < Sheet::STEPS {
+        return rects[k];
+    }
+    none()
+}
+
+// The input's own rectangle, where there is such an input, joined to that of those after it.
+fn join_input(
+    present: bool,
+    input: Input,
+    rest: Rect,
+    named: Rect,
+    rects: [Rect; Sheet::STEPS],
+) -> Rect
+    requires { ⌜ AllWithin longestSide longestSide named rects ⌝ }
+    ensures { λ o. ⌜ o ≡ cond present (joined (grow (window still still) (rectOf named rects input)) rest) rest ⌝ }
+{
+    if present {
+        return join(widen(rect_at(input, named, rects), 0, 0, 0, 0), rest);
+    }
+    rest
+}
+
+fn reached_shift(
+    input: Input,
+    dx: Shift,
+    dy: Shift,
+    named: Rect,
+    rects: [Rect; Sheet::STEPS],
+) -> Rect
+    requires { ⌜ AllWithin longestSide longestSide named rects × Near dx × Near dy ⌝ }
+    ensures { λ o. ⌜ o ≡ reachedBy (around input (moved (dx .plus) (dx .minus)) (moved (dy .plus) (dy .minus)) ∷ []) (rectOf named rects) ⌝ }
+{
+    join(shift(rect_at(input, named, rects), dx, dy), none())
+}
+
+// How far a pass looks back and ahead.
+fn back(pass: Pass, d: usize) -> usize
+    requires { ⌜ d ≤ mostOf pass ⌝ }
+    ensures { λ o. ⌜ (o ≡ backOf pass d) × (o ≤ longestSide) ⌝ }
+{
+    match pass {
+        Pass::Blur => spread_of(d),
+        Pass::Erode => d,
+        Pass::Dilate => d,
+    }
+}
+
+fn ahead(pass: Pass, d: usize) -> usize
+    requires { ⌜ d ≤ mostOf pass ⌝ }
+    ensures { λ o. ⌜ o ≡ aheadOf pass d ⌝ }
+{
+    match pass {
+        Pass::Blur => spread_of(d),
+        Pass::Erode => d,
+        Pass::Dilate => d,
+    }
+}
+
+// It grows to the right by what a pass looks back, and to the left by what it looks ahead.
+fn reached_pass(
+    pass: Pass,
+    input: Input,
+    dx: usize,
+    dy: usize,
+    named: Rect,
+    rects: [Rect; Sheet::STEPS],
+) -> Rect
+    requires { ⌜ AllWithin longestSide longestSide named rects × (dx ≤ mostOf pass) × (dy ≤ mostOf pass) ⌝ }
+    ensures { λ o. ⌜ o ≡ reachedBy (around input (sight pass dx) (sight pass dy) ∷ []) (rectOf named rects) ⌝ }
+{
+    let left = ahead(pass, dx);
+    let right = back(pass, dx);
+    let up = ahead(pass, dy);
+    let down = back(pass, dy);
+    let r = rect_at(input, named, rects);
+    join(widen(r, left, right, up, down), none())
+}
+
+fn reached_pair(a: Input, b: Input, named: Rect, rects: [Rect; Sheet::STEPS]) -> Rect
+    requires { ⌜ AllWithin longestSide longestSide named rects ⌝ }
+    ensures { λ o. ⌜ o ≡ reachedBy (here a ∷ here b ∷ []) (rectOf named rects) ⌝ }
+{
+    let second = join_input(true, b, none(), named, rects);
+    join_input(true, a, second, named, rects)
+}
+
+fn reached_merge(n: usize, inputs: Inputs, named: Rect, rects: [Rect; Sheet::STEPS]) -> Rect
+    requires { ⌜ AllWithin longestSide longestSide named rects ⌝ }
+    ensures { λ o. ⌜ o ≡ reachedBy (map here (firstInputs n inputs)) (rectOf named rects) ⌝ }
+{
+    let a = inputs.first;
+    let b = inputs.second;
+    let c = inputs.third;
+    let d = inputs.fourth;
+    let fourth = join_input(3 < n, d, none(), named, rects);
+    let third = join_input(2 < n, c, fourth, named, rects);
+    let second = join_input(1 < n, b, third, named, rects);
+    join_input(0 < n, a, second, named, rects)
+}
+
+// What a change of the inputs can reach.
+fn reached(shape: Shape, named: Rect, rects: [Rect; Sheet::STEPS]) -> Rect
+    requires { ⌜ Measured shape × AllWithin longestSide longestSide named rects ⌝ }
+    ensures { λ o. ⌜ o ≡ reachedBy (reads shape) (rectOf named rects) ⌝ }
+{
+    match shape {
+        Shape::Flood(_) => none(),
+        Shape::Offset(i, dx, dy) => reached_shift(i, dx, dy, named, rects),
+        Shape::Pass(p, i, dx, dy) => reached_pass(p, i, dx, dy, named, rects),
+        Shape::Map(_, i) => join_input(true, i, none(), named, rects),
+        Shape::Pair(_, i, j) => reached_pair(i, j, named, rects),
+        Shape::Merge(n, inputs) => reached_merge(n, inputs, named, rects),
+    }
+}
+
+// The rectangle of a step, from the bounds of its region: last it is cut to the canvas and to the region.
+pub fn damage_of(
+    width: usize,
+    height: usize,
+    shape: Shape,
+    region: Rect,
+    named: Rect,
+    rects: [Rect; Sheet::STEPS],
+) -> Rect
+    requires { ⌜ Measured shape × AllWithin longestSide longestSide named rects ⌝ }
+    ensures { λ o. ⌜ (o ≡ met (met (canvasOf width height) region) (reachedBy (reads shape) (rectOf named rects))) × Within width height o ⌝ }
+{
+    meet(
+        meet(canvas(width, height), region),
+        reached(shape, named, rects),
+    )
+}

@@ -1,0 +1,3 @@
+-- What drawing a step of the shape map leaves.
+pub mod Map
+pub mod Code

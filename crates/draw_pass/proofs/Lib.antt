@@ -1,0 +1,2 @@
+-- Laws of the rules of a pass.
+pub mod Passing

@@ -1,0 +1,74 @@
+-- The table of steps (RULES 5.1): one row a kind. Assumes nothing.
+use Prim.Native.Nat.{ℕ}
+use mathlib.Core.Bool.{cond}
+use lib.Dec.{ltb}
+use Rattle.number.specs.declared.Range.{Range}
+use Rattle.number.specs.declared.Range.the-variants as R
+use Rattle.filter.specs.declared.Map.{Map}
+use Rattle.filter.specs.declared.Map.the-variants as Map
+use Rattle.filter.specs.declared.Pair.{Pair}
+use Rattle.filter.specs.declared.Pair.the-variants as Pair
+use Rattle.filter.specs.declared.Pass.{Pass}
+use Rattle.filter.specs.declared.Pass.the-variants as Pass
+use Rattle.filter.specs.declared.Kind.{Kind}
+use Rattle.filter.specs.declared.Kind.the-variants as K
+use Rattle.filter.specs.declared.Group.{Group}
+use Rattle.filter.specs.declared.Numbers.{Numbers}
+use Rattle.filter.specs.declared.Signature.{Signature}
+
+-- the numbers before `end` that are in no group before
+abbrev pub upTo : ℕ → Range → Group
+upTo end r = record { end = end; range = r }
+
+-- n numbers of one range
+abbrev pub alike : ℕ → Range → Numbers
+alike n r = record { first = upTo n r; second = upTo n r; third = upTo n r; fourth = upTo n r }
+
+-- how many numbers there are, and what is allowed for number i
+abbrev pub countOf : Numbers → ℕ
+countOf ns = ns .fourth .end
+
+abbrev pub rangeIn : Numbers → ℕ → Range
+rangeIn ns i =
+    cond (ltb i (ns .first .end)) (ns .first .range)
+    (cond (ltb i (ns .second .end)) (ns .second .range)
+    (cond (ltb i (ns .third .end)) (ns .third .range)
+    (ns .fourth .range)))
+
+abbrev pub mapNumbers : Map → Numbers
+mapNumbers Map.Matrix = alike 20 R.Coefficient
+mapNumbers Map.Saturate = alike 1 R.Fraction
+mapNumbers Map.Luminance = alike 0 R.Coefficient
+
+abbrev pub pairNumbers : Pair → Numbers
+pairNumbers (Pair.Operator o) = alike 0 R.Coefficient
+pairNumbers Pair.Arithmetic = alike 4 R.Coefficient
+
+abbrev pub passNumbers : Pass → Numbers
+passNumbers Pass.Blur = alike 2 R.Deviation
+passNumbers Pass.Erode = alike 2 R.Radius
+passNumbers Pass.Dilate = alike 2 R.Radius
+
+-- bytes, inputs at least and in all, and the numbers
+abbrev pub row : ℕ → ℕ → ℕ → Numbers → Signature
+row b l i ns = record { bytes = b; least = l; inputs = i; numbers = ns }
+
+abbrev pub signatureOf : Kind → Signature
+signatureOf (K.Flood r g b) = row 3 0 0 (alike 1 R.Fraction)
+signatureOf K.Offset = row 0 1 1 (alike 2 R.Offset)
+signatureOf (K.Pass p) = row 0 1 1 (passNumbers p)
+signatureOf (K.Map m) = row 0 1 1 (mapNumbers m)
+signatureOf (K.Pair p) = row 0 1 2 (pairNumbers p)
+signatureOf (K.Merge n) = row 0 1 n (alike 0 R.Coefficient)
+
+abbrev pub byteFieldsOf : Kind → ℕ
+byteFieldsOf k = signatureOf k .bytes
+
+abbrev pub inputsOf : Kind → ℕ
+inputsOf k = signatureOf k .inputs
+
+abbrev pub numbersOf : Kind → ℕ
+numbersOf k = countOf (signatureOf k .numbers)
+
+abbrev pub rangeAt : Kind → ℕ → Range
+rangeAt k i = rangeIn (signatureOf k .numbers) i

@@ -1,0 +1,124 @@
+// The table of steps (RULES 5.1): a row for each kind.
+use super::Group;
+use super::Kind;
+use super::Map;
+use super::Numbers;
+use super::Pair;
+use super::Pass;
+use super::Signature;
+use number::Range;
+ghost use mathlib.Core.Path.{_≡_};
+ghost use Rattle.filter.specs.Signature.{alike, countOf, rangeIn, mapNumbers, pairNumbers, passNumbers, signatureOf};
+
+// So many numbers of one range.
+fn numbers_alike(count: usize, range: Range) -> Numbers
+    ensures { λ o. ⌜ o ≡ alike count range ⌝ }
+{
+    let group = Group { end: count, range };
+    Numbers {
+        first: group,
+        second: group,
+        third: group,
+        fourth: group,
+    }
+}
+
+pub fn map_numbers(map: Map) -> Numbers
+    ensures { λ o. ⌜ o ≡ mapNumbers map ⌝ }
+{
+    match map {
+        Map::Matrix => numbers_alike(20, Range::Coefficient),
+        Map::Saturate => numbers_alike(1, Range::Fraction),
+        Map::Luminance => numbers_alike(0, Range::Coefficient),
+    }
+}
+
+pub fn pair_numbers(pair: Pair) -> Numbers
+    ensures { λ o. ⌜ o ≡ pairNumbers pair ⌝ }
+{
+    match pair {
+        Pair::Operator(_) => numbers_alike(0, Range::Coefficient),
+        Pair::Arithmetic => numbers_alike(4, Range::Coefficient),
+    }
+}
+
+pub fn pass_numbers(pass: Pass) -> Numbers
+    ensures { λ o. ⌜ o ≡ passNumbers pass ⌝ }
+{
+    match pass {
+        Pass::Blur => numbers_alike(2, Range::Deviation),
+        Pass::Erode => numbers_alike(2, Range::Radius),
+        Pass::Dilate => numbers_alike(2, Range::Radius),
+    }
+}
+
+pub fn signature_of(kind: Kind) -> Signature
+    ensures { λ o. ⌜ o ≡ signatureOf kind ⌝ }
+{
+    match kind {
+        Kind::Flood(_, _, _) => Signature {
+            bytes: 3,
+            least: 0,
+            inputs: 0,
+            numbers: numbers_alike(1, Range::Fraction),
+        },
+        Kind::Offset => Signature {
+            bytes: 0,
+            least: 1,
+            inputs: 1,
+            numbers: numbers_alike(2, Range::Offset),
+        },
+        Kind::Pass(pass) => Signature {
+            bytes: 0,
+            least: 1,
+            inputs: 1,
+            numbers: pass_numbers(pass),
+        },
+        Kind::Map(map) => Signature {
+            bytes: 0,
+            least: 1,
+            inputs: 1,
+            numbers: map_numbers(map),
+        },
+        Kind::Pair(pair) => Signature {
+            bytes: 0,
+            least: 1,
+            inputs: 2,
+            numbers: pair_numbers(pair),
+        },
+        Kind::Merge(n) => Signature {
+            bytes: 0,
+            least: 1,
+            inputs: n,
+            numbers: numbers_alike(0, Range::Coefficient),
+        },
+    }
+}
+
+// How many numbers a kind has.
+pub fn number_count(numbers: Numbers) -> usize
+    ensures { λ o. ⌜ o ≡ countOf numbers ⌝ }
+{
+    let last = numbers.fourth;
+    last.end
+}
+
+// What is allowed for number i.
+pub fn range_in(numbers: Numbers, i: usize) -> Range
+    ensures { λ o. ⌜ o ≡ rangeIn numbers i ⌝ }
+{
+    let first = numbers.first;
+    if i < first.end {
+        return first.range;
+    }
+    let second = numbers.second;
+    if i < second.end {
+        return second.range;
+    }
+    let third = numbers.third;
+    if i < third.end {
+        return third.range;
+    }
+    let fourth = numbers.fourth;
+    fourth.range
+}
