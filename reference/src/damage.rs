@@ -69,14 +69,14 @@ fn joined(inputs: &[Rect], fault: Fault) -> Rect {
 
 /// Each step's rectangle, in order. "The source's rectangle, and its alpha's, is the one named by the caller."
 /// "Last it is cut to the canvas and to the step's region."
-pub fn rectangles(width: usize, height: usize, steps: &[Checked], named: Rect, fault: Fault) -> Vec<Rect> {
+pub fn rectangles(width: usize, height: usize, steps: &[Checked], changed: Rect, fault: Fault) -> Vec<Rect> {
     let canvas = Rect { left: 0, top: 0, right: width as i64, bottom: height as i64 };
     let mut rects: Vec<Rect> = Vec::new();
     for step in steps {
         let of = |input: &Input| match input {
             Input::Layer(n) => rects.get(*n).copied().unwrap_or(Rect::EMPTY),
             Input::Alpha if fault.is(Fault::AlphaUnmoved) => Rect::EMPTY,
-            Input::Source | Input::Alpha => named,
+            Input::Source | Input::Alpha => changed,
         };
         let inputs: Vec<Rect> = step.inputs.iter().map(of).collect();
         let full = reach(step, joined(&inputs, fault), fault).cut(canvas);
@@ -89,11 +89,11 @@ pub fn rectangles(width: usize, height: usize, steps: &[Checked], named: Rect, f
 }
 
 /// "The sum of the areas: .. each step's rectangle after the cut, once for each step; the source's own is not in it."
-pub fn count(rects: &[Rect], named: Rect, fault: Fault) -> u64 {
+pub fn count(rects: &[Rect], changed: Rect, fault: Fault) -> u64 {
     let all: u64 = rects.iter().map(|rect| rect.area()).sum();
     match fault {
         Fault::CountWithoutLast => all - rects.last().map_or(0, |rect| rect.area()),
-        Fault::CountWithSource => all + named.area(),
+        Fault::CountWithSource => all + changed.area(),
         _ => all,
     }
 }

@@ -86,8 +86,8 @@ pub fn redraw(
         Ok(steps) => steps,
         Err(answer) => return (answer, 0),
     };
-    let named = Rect::of(rect);
-    let rects = rectangles(sheet.width, sheet.height, &steps, named, fault);
+    let changed = Rect::of(rect);
+    let rects = rectangles(sheet.width, sheet.height, &steps, changed, fault);
     let source = Picture::from_bytes(sheet.width, sheet.height, source);
     let size = 4 * sheet.width * sheet.height;
     let old: Vec<Picture> =
@@ -101,7 +101,7 @@ pub fn redraw(
         stand.layers[n] = layer;
     }
     store(&stand.layers, workspace);
-    (Answer::DONE, count(&rects, named, fault))
+    (Answer::DONE, count(&rects, changed, fault))
 }
 
 /// Every step with its number.

@@ -17,9 +17,9 @@ impl Renderer for Library {
         answer(twillgoose::render(width, height, steps, source, workspace, scratch).map(|()| 0))
     }
 
-    fn redraw(&self, call: Call, named: Region) -> Answer {
+    fn redraw(&self, call: Call, changed: Region) -> Answer {
         let Call { width, height, steps, source, workspace, scratch } = call;
-        let rect = Rect { x: named.x, y: named.y, width: named.width, height: named.height };
+        let rect = Rect { x: changed.x, y: changed.y, width: changed.width, height: changed.height };
         answer(twillgoose::redraw(width, height, steps, rect, source, workspace, scratch))
     }
 }

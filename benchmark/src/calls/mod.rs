@@ -37,7 +37,7 @@ pub struct Answer {
 
 pub trait Renderer {
     fn render(&self, call: Call) -> Answer;
-    fn redraw(&self, call: Call, named: Region) -> Answer;
+    fn redraw(&self, call: Call, changed: Region) -> Answer;
 }
 
 /// The buffers that a sheet is drawn into, and what it is drawn on.
@@ -65,7 +65,7 @@ impl<'a> Desk<'a> {
         renderer.render(self.call())
     }
 
-    pub fn redraw(&mut self, renderer: &dyn Renderer, named: Region) -> Answer {
-        renderer.redraw(self.call(), named)
+    pub fn redraw(&mut self, renderer: &dyn Renderer, changed: Region) -> Answer {
+        renderer.redraw(self.call(), changed)
     }
 }

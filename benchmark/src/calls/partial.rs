@@ -47,24 +47,24 @@ pub fn old_layers<'a>(side: usize, sheet: &'a Sheet, source: &[u8], edited: &'a 
     desk
 }
 
-fn redraw(desk: &RefCell<Desk>, by: &dyn Renderer, named: Region) {
-    assert!(black_box(&mut *desk.borrow_mut()).redraw(by, named).number == 0);
+fn redraw(desk: &RefCell<Desk>, by: &dyn Renderer, changed: Region) {
+    assert!(black_box(&mut *desk.borrow_mut()).redraw(by, changed).number == 0);
 }
 
 /// The median and its error.
 fn drawing(desk: &RefCell<Desk>, ours: &dyn Renderer) -> (f64, f64) {
-    let named = edit(desk.borrow().side);
-    let empty = Region { width: 0, height: 0, ..named };
-    let [whole, nothing] = take_turns_for(LONGEST, [&mut || redraw(desk, ours, named), &mut || redraw(desk, ours, empty)]);
+    let changed = edit(desk.borrow().side);
+    let empty = Region { width: 0, height: 0, ..changed };
+    let [whole, nothing] = take_turns_for(LONGEST, [&mut || redraw(desk, ours, changed), &mut || redraw(desk, ours, empty)]);
     whole.longer_than(&nothing)
 }
 
 fn measure(desk: &RefCell<Desk>, ours: &dyn Renderer, plain: &dyn Renderer, parts: &Parts) -> Row {
     let (source, side) = (desk.borrow().source, desk.borrow().side);
-    let (named, mut copy) = (edit(side), source.to_vec());
+    let (changed, mut copy) = (edit(side), source.to_vec());
     let times = take_turns([
-        &mut || redraw(desk, ours, named),
-        &mut || redraw(desk, plain, named),
+        &mut || redraw(desk, ours, changed),
+        &mut || redraw(desk, plain, changed),
         &mut || {
             let desk = &*desk.borrow();
             let layers = desk.workspace.chunks_exact(source.len());

@@ -10,9 +10,9 @@ pub fn rendered<'a>(desk: &Desk<'a>, ours: &dyn Renderer, plain: &dyn Renderer) 
 }
 
 /// A redraw by both, of a desk that holds old layers; and it is the full render of what the desk is drawn on. The count.
-pub fn redrawn(old: &Desk, named: Region, ours: &dyn Renderer, plain: &dyn Renderer) -> Result<u64, String> {
+pub fn redrawn(old: &Desk, changed: Region, ours: &dyn Renderer, plain: &dyn Renderer) -> Result<u64, String> {
     let (mut one, mut other, mut full) = (old.clone(), old.clone(), old.clone());
-    let answers = [one.redraw(ours, named), other.redraw(plain, named)];
+    let answers = [one.redraw(ours, changed), other.redraw(plain, changed)];
     compared(&one, &other, answers)?;
     full.render(plain);
     if one.workspace != full.workspace {

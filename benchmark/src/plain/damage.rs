@@ -26,11 +26,11 @@ fn reach(work: &Work, rect: Rect) -> Rect {
     }
 }
 
-pub fn rectangles(steps: &[Step], named: Rect) -> Vec<Rect> {
+pub fn rectangles(steps: &[Step], changed: Rect) -> Vec<Rect> {
     let mut rects: Vec<Rect> = Vec::with_capacity(steps.len());
     for step in steps {
         let inputs = step.inputs.iter().map(|input| match *input {
-            Input::Source | Input::Alpha => named,
+            Input::Source | Input::Alpha => changed,
             Input::Layer(n) => rects[n],
         });
         let joined = inputs.filter(|rect| !rect.is_empty()).reduce(Rect::join);

@@ -32,13 +32,13 @@ use step::Step;
 pub struct Plain;
 
 /// Checks 1 to 6.
-fn sizes(call: &Call, steps: usize, named: Option<Region>) -> u64 {
+fn sizes(call: &Call, steps: usize, changed: Option<Region>) -> u64 {
     let side = |n: usize| (1..=1024).contains(&n);
     if !side(call.width) || !side(call.height) {
         return 1;
     }
     let size = 4 * call.width * call.height;
-    let outside = named.is_some_and(|r| r.x + r.width > call.width || r.y + r.height > call.height);
+    let outside = changed.is_some_and(|r| r.x + r.width > call.width || r.y + r.height > call.height);
     let wrong = [
         (2, call.source.len() != size),
         (3, steps == 0 || steps > 64),
@@ -50,13 +50,13 @@ fn sizes(call: &Call, steps: usize, named: Option<Region>) -> u64 {
 }
 
 /// The steps, or the refusal.
-fn checked(call: &Call, named: Option<Region>) -> Result<Vec<Step>, Answer> {
+fn checked(call: &Call, changed: Option<Region>) -> Result<Vec<Step>, Answer> {
     let steps = read::steps(call.steps);
-    let number = sizes(call, steps.len(), named);
+    let number = sizes(call, steps.len(), changed);
     if number != 0 {
         return Err(Answer { number, place: 0, count: 0 });
     }
-    let workspace = || named.and_then(|_| scan::first_invalid(call.workspace));
+    let workspace = || changed.and_then(|_| scan::first_invalid(call.workspace));
     match scan::first_invalid(call.source).or_else(workspace) {
         Some(pixel) => Err(Answer { number: 14, place: pixel as u64, count: 0 }),
         None => Ok(steps),
@@ -101,12 +101,12 @@ impl Renderer for Plain {
         Answer::default()
     }
 
-    fn redraw(&self, mut call: Call, named: Region) -> Answer {
-        let steps = match checked(&call, Some(named)) {
+    fn redraw(&self, mut call: Call, changed: Region) -> Answer {
+        let steps = match checked(&call, Some(changed)) {
             Ok(steps) => steps,
             Err(answer) => return answer,
         };
-        let rects = damage::rectangles(&steps, Rect::new(named.x, named.y, named.width, named.height));
+        let rects = damage::rectangles(&steps, Rect::new(changed.x, changed.y, changed.width, changed.height));
         for (n, (step, rect)) in steps.iter().zip(&rects).enumerate() {
             let (inputs, out, scratch) = parted(&mut call, &steps, n);
             draw::draw(step, *rect, &inputs, out, scratch);

@@ -22,10 +22,10 @@ impl Renderer for Second {
         answer(render(sheet, call.source, call.workspace, call.scratch, self.0), 0)
     }
 
-    fn redraw(&self, call: Call, named: Region) -> Answer {
+    fn redraw(&self, call: Call, changed: Region) -> Answer {
         let steps = text::steps_of(call.steps, self.0).expect("well formed");
         let sheet = Sheet::whole(call.width, call.height, &steps);
-        let Region { x, y, width, height } = named;
+        let Region { x, y, width, height } = changed;
         let rect = step::Region { x, y, width, height };
         let (said, count) = redraw(sheet, rect, call.source, call.workspace, call.scratch, self.0);
         answer(said, count)
@@ -36,7 +36,7 @@ struct Case {
     width: usize,
     height: usize,
     steps: Vec<u8>,
-    named: Region,
+    changed: Region,
     source: Vec<u8>,
     workspace: Vec<u8>,
     scratch: Vec<u8>,
@@ -46,7 +46,7 @@ struct Case {
 fn case(random: &mut Random, width: usize, height: usize, steps: String) -> Case {
     let (size, count) = (width * height, steps.lines().count());
     let step::Region { x, y, width: across, height: down } = region(random, width, height);
-    let named = Region { x, y, width: across, height: down };
+    let changed = Region { x, y, width: across, height: down };
     let (mut source, mut workspace) = (picture(random, size), picture(random, size * count));
     let mut scratch: Vec<u8> = (0..8 * size).map(|_| random.byte()).collect();
     match random.below(40) {
@@ -57,7 +57,7 @@ fn case(random: &mut Random, width: usize, height: usize, steps: String) -> Case
         4 => scratch.push(0),
         _ => {}
     }
-    Case { width, height, steps: steps.into_bytes(), named, source, workspace, scratch }
+    Case { width, height, steps: steps.into_bytes(), changed, source, workspace, scratch }
 }
 
 /// Answer, workspace and scratch of a call.
@@ -65,7 +65,7 @@ fn after(case: &Case, partly: bool, by: &dyn Renderer) -> (Answer, Vec<u8>, Vec<
     let (mut workspace, mut scratch) = (case.workspace.clone(), case.scratch.clone());
     let Case { width, height, steps, source, .. } = case;
     let call = Call { width: *width, height: *height, steps, source, workspace: &mut workspace, scratch: &mut scratch };
-    let answer = if partly { by.redraw(call, case.named) } else { by.render(call) };
+    let answer = if partly { by.redraw(call, case.changed) } else { by.render(call) };
     (answer, workspace, scratch)
 }
 

@@ -19,7 +19,7 @@ use text::reader::scan;
 struct Entry {
     width: usize,
     height: usize,
-    named: Region,
+    changed: Region,
     count: usize,
     redraw: bool,
     layer: usize,
@@ -106,9 +106,9 @@ fn print_answer(answer: Answer) {
 }
 
 fn call_of(entry: Entry) -> Call {
-    let named = entry.named;
+    let changed = entry.changed;
     if entry.redraw {
-        return Call::Redraw(named);
+        return Call::Redraw(changed);
     }
     Call::Render
 }
@@ -147,8 +147,8 @@ fn print_on(
 )
     requires { ⌜ (length (now workspace) ≡ length (now layers)) × (length (now scratch) ≡ length (now spare)) ⌝ }
 {
-    raster::row::copy(workspace, layers);
-    raster::row::copy(scratch, spare);
+    kernel_row::row::copy(workspace, layers);
+    kernel_row::row::copy(scratch, spare);
     run(entry, text, source, layers, spare);
     print_change(workspace, &layers[..], false);
     print_change(scratch, &spare[..], is_zero(&spare[..]));
@@ -187,7 +187,7 @@ fn value(head: &[u8], i: usize) -> usize
 fn entry_of(head: &[u8], redraw: bool) -> Entry
     requires { ⌜ length (now head) ≡ 206 ⌝ }
 {
-    let named = Region {
+    let changed = Region {
         x: value(head, 2),
         y: value(head, 3),
         width: value(head, 4),
@@ -196,7 +196,7 @@ fn entry_of(head: &[u8], redraw: bool) -> Entry
     Entry {
         width: value(head, 0),
         height: value(head, 1),
-        named,
+        changed,
         count: value(head, 6),
         redraw,
         layer: value(head, 7),

@@ -1,3 +1,3 @@
 -- Laws that the proofs of the functions cite.
 pub mod Replies
-pub mod Refused
+pub mod ZeroIsDrawn

@@ -78,14 +78,14 @@ pub extern "C" fn twillgoose_redraw(
     ensures redraws { λ _. ⌜ RedrawsAfter (redrawing x y columns rows width height steps source workspace scratch) (now (workspace .exit)) ⌝ }
     ensures valid { λ _. ⌜ ValidAfter (redrawing x y columns rows width height steps source workspace scratch) (now (workspace .exit)) ⌝ }
 {
-    let named = Region {
+    let changed = Region {
         x,
         y,
         width: columns,
         height: rows,
     };
     let redrawn = call_lines(
-        Call::Redraw(named),
+        Call::Redraw(changed),
         width,
         height,
         steps,
@@ -111,7 +111,7 @@ pub extern "C" fn twillgoose_layer(
     ensures long { λ r. ⌜ r ≡ viewAt width height steps n workspace .bytes ⌝ }
     ensures offset { λ _. ⌜ now (offset .exit) ≡ viewAt width height steps n workspace .offset ⌝ }
 {
-    let v = render::views::place(width, height, steps, n, workspace);
+    let v = render::views::view_at(width, height, steps, n, workspace);
     *offset = v.offset as u64;
     v.bytes as u64
 }

@@ -5,7 +5,7 @@ ghost use lib.ListN.{length};
 use number::Judged;
 use number::Number;
 use number::Range;
-use pixel::Row;
+use pixel::MatrixRow;
 use tables::field::hex;
 
 fn print_word(w: &[u8]) {
@@ -30,7 +30,7 @@ fn print_byte(name: &[u8], value: u8) {
     end_line();
 }
 
-fn print_row(name: &[u8], row: Row) {
+fn print_row(name: &[u8], row: MatrixRow) {
     print_word(name);
     print_number(row.r.above);
     print_number(row.g.above);

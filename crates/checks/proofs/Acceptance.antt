@@ -26,10 +26,10 @@ use Rattle.filter.specs.Steps.{unitsAt, shiftOf, pixelsOf, listed, valueOf, val
 use Rattle.filter.specs.Checks.{merges?, inputs?, onCanvas?, stepAnswer, stepsAnswer, canvas?, count?, sizesAnswer, rectangleAnswer}
 use Rattle.filter.specs.Accepted.{OnCanvas, Canvas, Near, Ranged, mostOf, Measured, Numbered, Bounded, AcceptedStep, AcceptedSizes}
 use Rattle.filter.specs.Limits.{longestSide, mostSteps, mostNumbers}
-use Rattle.filter.proofs.Units.{units-in-range}
-use Rattle.filter.proofs.Ranges.{alike-range}
+use Rattle.filter.proofs.UnitsInRange.{units-in-range}
+use Rattle.filter.proofs.AllowedCoefficients.{alike-range}
 use Rattle.filter.proofs.Earlier.{both-true, inputs-earlier}
-use Rattle.filter.proofs.Refusals.{unless-accepted, first-accepted, step-accepted}
+use Rattle.filter.proofs.PassedChecks.{unless-accepted, first-accepted, step-accepted}
 
 listed-at : {A : Type 0} (f : ℕ → A) (d : A) (i n k : ℕ) → k < n → getD (listed f i n) k d ≡ f (i + k)
 listed-at f d i zero k l = absurd (omega arith)

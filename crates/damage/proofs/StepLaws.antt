@@ -18,7 +18,7 @@ use Rattle.number.specs.Number.{judged, fixedOf, limitOf}
 use Rattle.filter.specs.Kinds.{noValue}
 use Rattle.filter.specs.Limits.{mostNumbers}
 use Rattle.filter.specs.Steps.{listed}
-use Rattle.filter.proofs.Units.{fixed-in-range}
+use Rattle.filter.proofs.UnitsInRange.{fixed-in-range}
 
 pub units-are : (r : Range) (x y : Number) (j : Judged) (o : Fixed) → y ≡ x → j ≡ judged r y → o ≡ fixedOf j
     → (o ≡ fixedOf (judged r x)) × (o .above ≤ 65536 * limitOf r) × (o .below ≤ 65536 * limitOf r)

@@ -12,7 +12,8 @@ use filter::Rect;
 use filter::Shape;
 use filter::Sheet;
 use filter::Shift;
-use window::spread_of;
+use filter::kinds::ahead_of;
+use filter::kinds::back_of;
 ghost use mathlib.Core.Path.{_≡_};
 ghost use mathlib.Core.Bool.{cond};
 ghost use mathlib.Core.List.{[], _∷_, map};
@@ -20,19 +21,19 @@ ghost use Prim.Native.Nat.{_≤_};
 ghost use lib.ListN.{getD};
 ghost use Rattle.filter.specs.Rect.{canvasOf, empty, meet as met, join as joined};
 ghost use Rattle.filter.specs.Reach.{window, still, moved, grow};
-ghost use Rattle.filter.specs.Kinds.{backOf, aheadOf, sight, here, around, firstInputs, reads};
+ghost use Rattle.filter.specs.Kinds.{sight, here, around, firstInputs, reads};
 ghost use Rattle.filter.specs.Layers.{reached as reachedBy};
 ghost use Rattle.filter.specs.Accepted.{Within, Near, mostOf, Measured};
 ghost use Rattle.filter.specs.Limits.{longestSide};
-ghost use Rattle.damage.specs.Damage.{rectOf, AllWithin};
+ghost use Rattle.damage.specs.InputRects.{rectOf, AllWithin};
 
 // The rectangle of an input.
-fn rect_at(input: Input, named: Rect, rects: [Rect; Sheet::STEPS]) -> Rect
-    ensures { λ o. ⌜ o ≡ rectOf named rects input ⌝ }
+fn rect_at(input: Input, changed: Rect, rects: [Rect; Sheet::STEPS]) -> Rect
+    ensures { λ o. ⌜ o ≡ rectOf changed rects input ⌝ }
 {
     match input {
-        Input::Source => named,
-        Input::SourceAlpha => named,
+        Input::Source => changed,
+        Input::SourceAlpha => changed,
         Input::Layer(k) => layer_rect(k, rects),
     }
 }
@@ -52,14 +53,14 @@ fn join_input(
     present: bool,
     input: Input,
     rest: Rect,
-    named: Rect,
+    changed: Rect,
     rects: [Rect; Sheet::STEPS],
 ) -> Rect
-    requires { ⌜ AllWithin longestSide longestSide named rects ⌝ }
-    ensures { λ o. ⌜ o ≡ cond present (joined (grow (window still still) (rectOf named rects input)) rest) rest ⌝ }
+    requires { ⌜ AllWithin longestSide longestSide changed rects ⌝ }
+    ensures { λ o. ⌜ o ≡ cond present (joined (grow (window still still) (rectOf changed rects input)) rest) rest ⌝ }
 {
     if present {
-        return join(widen(rect_at(input, named, rects), 0, 0, 0, 0), rest);
+        return join(widen(rect_at(input, changed, rects), 0, 0, 0, 0), rest);
     }
     rest
 }
@@ -68,36 +69,13 @@ fn reached_shift(
     input: Input,
     dx: Shift,
     dy: Shift,
-    named: Rect,
+    changed: Rect,
     rects: [Rect; Sheet::STEPS],
 ) -> Rect
-    requires { ⌜ AllWithin longestSide longestSide named rects × Near dx × Near dy ⌝ }
-    ensures { λ o. ⌜ o ≡ reachedBy (around input (moved (dx .plus) (dx .minus)) (moved (dy .plus) (dy .minus)) ∷ []) (rectOf named rects) ⌝ }
+    requires { ⌜ AllWithin longestSide longestSide changed rects × Near dx × Near dy ⌝ }
+    ensures { λ o. ⌜ o ≡ reachedBy (around input (moved (dx .plus) (dx .minus)) (moved (dy .plus) (dy .minus)) ∷ []) (rectOf changed rects) ⌝ }
 {
-    join(shift(rect_at(input, named, rects), dx, dy), none())
-}
-
-// How far a pass looks back and ahead.
-fn back(pass: Pass, d: usize) -> usize
-    requires { ⌜ d ≤ mostOf pass ⌝ }
-    ensures { λ o. ⌜ (o ≡ backOf pass d) × (o ≤ longestSide) ⌝ }
-{
-    match pass {
-        Pass::Blur => spread_of(d),
-        Pass::Erode => d,
-        Pass::Dilate => d,
-    }
-}
-
-fn ahead(pass: Pass, d: usize) -> usize
-    requires { ⌜ d ≤ mostOf pass ⌝ }
-    ensures { λ o. ⌜ o ≡ aheadOf pass d ⌝ }
-{
-    match pass {
-        Pass::Blur => spread_of(d),
-        Pass::Erode => d,
-        Pass::Dilate => d,
-    }
+    join(shift(rect_at(input, changed, rects), dx, dy), none())
 }
 
 // It grows to the right by what a pass looks back, and to the left by what it looks ahead.
@@ -106,54 +84,54 @@ fn reached_pass(
     input: Input,
     dx: usize,
     dy: usize,
-    named: Rect,
+    changed: Rect,
     rects: [Rect; Sheet::STEPS],
 ) -> Rect
-    requires { ⌜ AllWithin longestSide longestSide named rects × (dx ≤ mostOf pass) × (dy ≤ mostOf pass) ⌝ }
-    ensures { λ o. ⌜ o ≡ reachedBy (around input (sight pass dx) (sight pass dy) ∷ []) (rectOf named rects) ⌝ }
+    requires { ⌜ AllWithin longestSide longestSide changed rects × (dx ≤ mostOf pass) × (dy ≤ mostOf pass) ⌝ }
+    ensures { λ o. ⌜ o ≡ reachedBy (around input (sight pass dx) (sight pass dy) ∷ []) (rectOf changed rects) ⌝ }
 {
-    let left = ahead(pass, dx);
-    let right = back(pass, dx);
-    let up = ahead(pass, dy);
-    let down = back(pass, dy);
-    let r = rect_at(input, named, rects);
+    let left = ahead_of(pass, dx);
+    let right = back_of(pass, dx);
+    let up = ahead_of(pass, dy);
+    let down = back_of(pass, dy);
+    let r = rect_at(input, changed, rects);
     join(widen(r, left, right, up, down), none())
 }
 
-fn reached_pair(a: Input, b: Input, named: Rect, rects: [Rect; Sheet::STEPS]) -> Rect
-    requires { ⌜ AllWithin longestSide longestSide named rects ⌝ }
-    ensures { λ o. ⌜ o ≡ reachedBy (here a ∷ here b ∷ []) (rectOf named rects) ⌝ }
+fn reached_pair(a: Input, b: Input, changed: Rect, rects: [Rect; Sheet::STEPS]) -> Rect
+    requires { ⌜ AllWithin longestSide longestSide changed rects ⌝ }
+    ensures { λ o. ⌜ o ≡ reachedBy (here a ∷ here b ∷ []) (rectOf changed rects) ⌝ }
 {
-    let second = join_input(true, b, none(), named, rects);
-    join_input(true, a, second, named, rects)
+    let second = join_input(true, b, none(), changed, rects);
+    join_input(true, a, second, changed, rects)
 }
 
-fn reached_merge(n: usize, inputs: Inputs, named: Rect, rects: [Rect; Sheet::STEPS]) -> Rect
-    requires { ⌜ AllWithin longestSide longestSide named rects ⌝ }
-    ensures { λ o. ⌜ o ≡ reachedBy (map here (firstInputs n inputs)) (rectOf named rects) ⌝ }
+fn reached_merge(n: usize, inputs: Inputs, changed: Rect, rects: [Rect; Sheet::STEPS]) -> Rect
+    requires { ⌜ AllWithin longestSide longestSide changed rects ⌝ }
+    ensures { λ o. ⌜ o ≡ reachedBy (map here (firstInputs n inputs)) (rectOf changed rects) ⌝ }
 {
     let a = inputs.first;
     let b = inputs.second;
     let c = inputs.third;
     let d = inputs.fourth;
-    let fourth = join_input(3 < n, d, none(), named, rects);
-    let third = join_input(2 < n, c, fourth, named, rects);
-    let second = join_input(1 < n, b, third, named, rects);
-    join_input(0 < n, a, second, named, rects)
+    let fourth = join_input(3 < n, d, none(), changed, rects);
+    let third = join_input(2 < n, c, fourth, changed, rects);
+    let second = join_input(1 < n, b, third, changed, rects);
+    join_input(0 < n, a, second, changed, rects)
 }
 
 // What a change of the inputs can reach.
-fn reached(shape: Shape, named: Rect, rects: [Rect; Sheet::STEPS]) -> Rect
-    requires { ⌜ Measured shape × AllWithin longestSide longestSide named rects ⌝ }
-    ensures { λ o. ⌜ o ≡ reachedBy (reads shape) (rectOf named rects) ⌝ }
+fn reached(shape: Shape, changed: Rect, rects: [Rect; Sheet::STEPS]) -> Rect
+    requires { ⌜ Measured shape × AllWithin longestSide longestSide changed rects ⌝ }
+    ensures { λ o. ⌜ o ≡ reachedBy (reads shape) (rectOf changed rects) ⌝ }
 {
     match shape {
         Shape::Flood(_) => none(),
-        Shape::Offset(i, dx, dy) => reached_shift(i, dx, dy, named, rects),
-        Shape::Pass(p, i, dx, dy) => reached_pass(p, i, dx, dy, named, rects),
-        Shape::Map(_, i) => join_input(true, i, none(), named, rects),
-        Shape::Pair(_, i, j) => reached_pair(i, j, named, rects),
-        Shape::Merge(n, inputs) => reached_merge(n, inputs, named, rects),
+        Shape::Offset(i, dx, dy) => reached_shift(i, dx, dy, changed, rects),
+        Shape::Pass(p, i, dx, dy) => reached_pass(p, i, dx, dy, changed, rects),
+        Shape::Map(_, i) => join_input(true, i, none(), changed, rects),
+        Shape::Pair(_, i, j) => reached_pair(i, j, changed, rects),
+        Shape::Merge(n, inputs) => reached_merge(n, inputs, changed, rects),
     }
 }
 
@@ -163,14 +141,14 @@ pub fn damage_of(
     height: usize,
     shape: Shape,
     region: Rect,
-    named: Rect,
+    changed: Rect,
     rects: [Rect; Sheet::STEPS],
 ) -> Rect
-    requires { ⌜ Measured shape × AllWithin longestSide longestSide named rects ⌝ }
-    ensures { λ o. ⌜ (o ≡ met (met (canvasOf width height) region) (reachedBy (reads shape) (rectOf named rects))) × Within width height o ⌝ }
+    requires { ⌜ Measured shape × AllWithin longestSide longestSide changed rects ⌝ }
+    ensures { λ o. ⌜ (o ≡ met (met (canvasOf width height) region) (reachedBy (reads shape) (rectOf changed rects))) × Within width height o ⌝ }
 {
     meet(
         meet(canvas(width, height), region),
-        reached(shape, named, rects),
+        reached(shape, changed, rects),
     )
 }

@@ -12,9 +12,10 @@ ghost use Prim.Native.Nat.{_+_, _*_, _≤_, _<_};
 ghost use lib.ListN.{set, replicate};
 ghost use Rattle.pixel.specs.declared.Space.the-variants.{Srgb};
 ghost use Rattle.pixel.specs.Convert.{differ?};
-ghost use Rattle.filter.specs.Rect.{empty, area as areaOf};
+ghost use Rattle.filter.specs.Rect.{empty};
 ghost use Rattle.filter.specs.Accepted.{Within};
 ghost use Rattle.filter.specs.Limits.{longestSide, mostPixels, mostSteps};
+ghost use Rattle.damage.specs.InputRects.{RectAdded};
 
 // No step drawn yet.
 pub fn none_so_far() -> SoFar
@@ -27,10 +28,10 @@ pub fn none_so_far() -> SoFar
     }
 }
 
-// With the rectangle of step n: "the count is the sum of the areas".
+// With the rectangle of step n.
 pub fn with_rect(before: SoFar, n: usize, rect: Rect) -> SoFar
     requires { ⌜ (n < mostSteps) × (before .count ≤ n * mostPixels) × Within longestSide longestSide rect ⌝ }
-    ensures { λ o. ⌜ (o .rects ≡ set (before .rects) n rect) × (o .count ≡ before .count + areaOf rect) × (areaOf rect ≤ mostPixels) × (o .linear ≡ before .linear) ⌝ }
+    ensures { λ o. ⌜ RectAdded n rect before o ⌝ }
 {
     let mut rects = before.rects;
     rects[n] = rect;

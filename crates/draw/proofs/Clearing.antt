@@ -11,14 +11,14 @@ use Rattle.window.proofs.Store.{lt-or-le}
 use Rattle.pixel.specs.Alpha.{clear}
 use Rattle.pixel.specs.Bytes.{pixelAt, Painted}
 use Rattle.window.proofs.Numbers.{line-end}
-use Rattle.pixel.proofs.Painting.{pixel-same}
+use Rattle.pixel.proofs.PaintedRows.{pixel-same}
 use Rattle.filter.specs.declared.Rect.{Rect}
 use Rattle.filter.specs.Rect.{In}
 use Rattle.filter.specs.Bytes.{size}
-use Rattle.stage.proofs.Sizes.{row-ends}
-use Rattle.stage.proofs.Places.{layer-bytes}
-use Rattle.draw.specs.Cleared.{Cleared}
-use Rattle.draw.specs.Covers.{covers?}
+use Rattle.buffers.proofs.RowsFit.{row-ends}
+use Rattle.buffers.proofs.RowStarts.{layer-bytes}
+use Rattle.draw.specs.ClearedAround.{ClearedAround}
+use Rattle.draw.specs.CoversCanvas.{covers?}
 
 -- every place of the canvas is in the rectangle
 covers-in : (w h : ℕ) (r : Rect) → covers? w h r ≡ true → (x y : ℕ) → x < w → y < h → In r x y
@@ -37,14 +37,14 @@ covers-in w h r t x y lx ly = go _ _ _ _ refl refl refl refl t
       bottom = omega (arith, leb-true h (r .bottom) ed);
     }
 
-pub cleared-covered : (w h n : ℕ) (r : Rect) (d : List ℕ) → covers? w h r ≡ true → Cleared w h n r d d
+pub cleared-covered : (w h n : ℕ) (r : Rect) (d : List ℕ) → covers? w h r ≡ true → ClearedAround w h n r d d
 cleared-covered w h n r d t = record {
   outside = λ x y lx ly o. absurd (o (covers-in w h r t x y lx ly));
   others = λ k x y ne lx ly. refl;
   long = refl;
 }
 
-pub cleared-all : (w h n : ℕ) (r : Rect) (d d′ : List ℕ) → Painted (λ x. clear) 0 (n * (w * h)) (n * (w * h) + w * h) d d′ → Cleared w h n r d d′
+pub cleared-all : (w h n : ℕ) (r : Rect) (d d′ : List ℕ) → Painted (λ x. clear) 0 (n * (w * h)) (n * (w * h) + w * h) d d′ → ClearedAround w h n r d d′
 cleared-all w h n r d d′ P = record {
   outside = λ x y lx ly o.
       let e : n * size w h + 4 * (y * w + x) ≡ 0 + 4 * (n * (w * h) + (y * w + x)) = omega (arith, layer-bytes w h n) in

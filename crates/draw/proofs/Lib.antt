@@ -1,3 +1,3 @@
 -- Laws of a layer that is cleared.
 pub mod Clearing
-pub mod Known
+pub mod ShapeKnown

@@ -1,3 +1,3 @@
 -- A layer cleared around a rectangle.
-pub mod Cleared
-pub mod Covers
+pub mod ClearedAround
+pub mod CoversCanvas

@@ -7,11 +7,12 @@ ghost use Rattle.filter.specs.Kinds.{reads};
 ghost use Rattle.filter.specs.Earlier.{Earlier};
 ghost use Rattle.filter.specs.Accepted.{Within, Bounded};
 ghost use Rattle.filter.specs.Bytes.{size};
-ghost use Rattle.stage.specs.Buffers.{Sized, ValidInputs};
-ghost use Rattle.stage.specs.Shown.{shown};
-ghost use Rattle.stage.specs.Context.{Canvas, LayerIn, Drawable, StepDrawn};
-ghost use Rattle.draw.specs.Cleared.{Cleared};
-ghost use Rattle.draw.specs.Covers.{covers?};
+ghost use Rattle.buffers.specs.Buffers.{Sized, ValidInputs};
+ghost use Rattle.buffers.specs.Shown.{shown};
+ghost use Rattle.buffers.specs.Context.{InLimits, LayerIn, Drawable, StepDrawn};
+ghost use Rattle.draw.specs.ClearedAround.{ClearedAround};
+ghost use Rattle.draw.specs.CoversCanvas.{covers?};
+use buffers::Context;
 use draw_map::draw_map;
 use draw_pair::draw_pair;
 use draw_pass::draw_pass;
@@ -19,9 +20,9 @@ use draw_point::draw_rows;
 use filter::Rect;
 use filter::Resolved;
 use filter::Shape;
-use stage::Context;
 
-// A step inside one rectangle of its layer, its inputs converted by the table t of its space, or without one where t is empty.
+// A step inside one rectangle of its layer, its inputs converted by the table t of its space, or without one where t is empty. `&src[..]` is passed as
+// pointer and length, so that the compiler sees that the source is apart from work rows and copies it in one block.
 fn draw_shape(
     ws: &mut [u8],
     src: &[u8],
@@ -40,11 +41,11 @@ fn draw_shape(
     let values = step.values;
     match shape {
         Shape::Pass(pass, i, dx, dy) => {
-            draw_pass(ws, src, scratch, context, t, pass, i, dx, dy, rect)
+            draw_pass(ws, &src[..], scratch, context, t, pass, i, dx, dy, rect)
         }
-        Shape::Map(map, i) => draw_map(ws, src, context, t, map, values, i, rect),
-        Shape::Pair(pair, i, j) => draw_pair(ws, src, context, t, pair, values, i, j, rect),
-        _ => draw_rows(ws, src, context, t, shape, rect),
+        Shape::Map(map, i) => draw_map(ws, &src[..], context, t, map, values, i, rect),
+        Shape::Pair(pair, i, j) => draw_pair(ws, &src[..], context, t, pair, values, i, j, rect),
+        _ => draw_rows(ws, &src[..], context, t, shape, rect),
     }
 }
 
@@ -65,7 +66,7 @@ fn draw_tabled(
 {
     let space = context.space;
     let mut pairs = [0u8; 65536];
-    raster_space::prepare(space, &mut pairs);
+    kernel_remap::prepare(space, &mut pairs);
     draw_shape(workspace, source, scratch, context, &pairs, step, rect);
 }
 
@@ -102,13 +103,13 @@ fn covers(rect: Rect, w: usize, h: usize) -> bool
 // Everything of the step's layer outside a rectangle is cleared; the inside is left to whoever draws it. A rectangle that holds the canvas
 // leaves nothing to clear.
 pub fn clear_around(workspace: &mut [u8], context: Context, rect: Rect)
-    requires { ⌜ Canvas context × LayerIn context (now workspace) ⌝ }
-    ensures { λ _. ⌜ Cleared (context .w) (context .h) (context .n) rect (now (workspace .entry)) (now (workspace .exit)) ⌝ }
+    requires { ⌜ InLimits context × LayerIn context (now workspace) ⌝ }
+    ensures { λ _. ⌜ ClearedAround (context .w) (context .h) (context .n) rect (now (workspace .entry)) (now (workspace .exit)) ⌝ }
 {
     if covers(rect, context.w, context.h) {
         return;
     }
     let area = context.w * context.h;
     let from = context.n * area;
-    raster::row::clear_pixels(workspace, from, from + area);
+    kernel_row::row::clear_pixels(workspace, from, from + area);
 }

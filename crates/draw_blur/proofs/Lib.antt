@@ -1,3 +1,3 @@
 -- Laws of a blur on a picture.
-pub mod Blurs
-pub mod Turning
+pub mod BlurBanded
+pub mod RowsAsLanes

@@ -1,3 +1,3 @@
 -- A blur along lines: definitions that only the code needs; no promise to a caller cites them.
-pub mod Blurs
+pub mod BlurRule
 pub mod Lanes

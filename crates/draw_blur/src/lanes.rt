@@ -4,15 +4,15 @@ ghost use Prim.Native.Nat.{_+_, _*_, _≤_};
 ghost use lib.ListN.{length};
 ghost use Rattle.filter.specs.Checks.{allowed?};
 ghost use Rattle.filter.specs.Limits.{longestSide};
-ghost use Rattle.stage.specs.Shown.{shown};
-ghost use Rattle.stage.specs.Context.{Readable};
+ghost use Rattle.buffers.specs.Shown.{shown};
+ghost use Rattle.buffers.specs.Context.{Readable};
 ghost use Rattle.draw_blur.specs.Lanes.{Dealt, Gathered};
+use buffers::Context;
+use buffers::RowPart;
 use draw_window::Span;
 use filter::Input;
-use raster_blur::rows::copy_rows;
-use raster_blur::rows::spread;
-use stage::Context;
-use stage::RowPart;
+use kernel_blur::rows::copy_rows;
+use kernel_blur::rows::deal_row;
 
 // A span of the rows y .. y + count - 1 of an input as a step sees it, dealt to the lanes of the lines at the start of `lines`.
 pub fn deal_rows(
@@ -37,8 +37,9 @@ pub fn deal_rows(
             from: span.from,
             to: span.to,
         };
-        stage::load(workspace, source, context, pairs, input, part, &mut row);
-        spread(&row, lines, 4 * k, span.to - span.from);
+        buffers::copy_layer(workspace, source, context, input, part, &mut row);
+        let seen = buffers::see(workspace, source, context, pairs, input, part, &mut row);
+        deal_row(seen, lines, 4 * k, span.to - span.from);
     }
 }
 

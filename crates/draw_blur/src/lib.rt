@@ -8,16 +8,16 @@ ghost use Prim.Native.Nat.{_*_, _≤_};
 ghost use lib.ListN.{length};
 ghost use Rattle.filter.specs.Checks.{allowed?};
 ghost use Rattle.filter.specs.Limits.{longestSide, mostPixels};
-ghost use Rattle.stage.specs.Context.{Readable};
-ghost use Rattle.draw_window.specs.Passes.{Worked};
+ghost use Rattle.buffers.specs.Context.{Readable};
+ghost use Rattle.draw_window.specs.LineRules.{Worked};
 ghost use Rattle.draw_window.specs.Strips.{StripOn, areaOf, StripAcross, StripDown};
-ghost use Rattle.draw_blur.specs.Blurs.{blurs};
-use draw_window::reached;
+ghost use Rattle.draw_blur.specs.BlurRule.{blurs};
+use buffers::Context;
+use draw_window::looked_at;
 use filter::Input;
 use filter::Rect;
 use lanes::deal_rows;
 use lanes::gather_rows;
-use stage::Context;
 use window::lesser;
 use window::spread_of;
 
@@ -40,7 +40,7 @@ fn pass_lines(
     if d < 2 {
         return 0;
     }
-    raster_blur::blur::blur_lines(buf, 0, half, n, count, d, sums);
+    kernel_blur::blur::blur_lines(buf, 0, half, n, count, d, sums);
     half
 }
 
@@ -65,7 +65,7 @@ pub fn blur_across(
     let bottom = strip.bottom;
     let width = right - left;
     let reach = spread_of(d);
-    let span = reached(context.w, left, right, reach, reach);
+    let span = looked_at(context.w, left, right, reach, reach);
     let places = span.to - span.from;
     let skip = 32 * (left - span.from);
     let mut tile = [0u8; 2 * TILE];

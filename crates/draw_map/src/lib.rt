@@ -11,9 +11,11 @@ ghost use Rattle.filter.specs.Kinds.{mapped};
 ghost use Rattle.filter.specs.Signature.{mapNumbers};
 ghost use Rattle.filter.specs.Checks.{allowed?};
 ghost use Rattle.filter.specs.Accepted.{Within, Ranged};
-ghost use Rattle.stage.specs.Context.{Drawable, OnRow};
+ghost use Rattle.buffers.specs.Context.{Drawable, OnRow};
 ghost use Rattle.draw_map.specs.Map.{MapDrawn};
 ghost use Rattle.draw_map.specs.Code.{Prepared, MappingPainted, MappingDrawn};
+use buffers::Context;
+use buffers::RowPart;
 use filter::Input;
 use filter::Map;
 use filter::Rect;
@@ -22,13 +24,11 @@ use kinds::map_row;
 use kinds::prepare;
 use number::Fixed;
 use pixel::Matrix;
-use stage::Context;
-use stage::RowPart;
 
 // How a kind works a pixel, with what it takes of the step's values.
 pub enum Method {
-    Transform(Matrix),
-    Luminance,
+    ByMatrix(Matrix),
+    ByLuminance,
 }
 
 // A method and the input that it works.
@@ -46,26 +46,27 @@ fn paint(
     mapping: Mapping,
     part: RowPart,
     products: &[u64],
-    luma: &[u32],
+    luminances: &[u32],
     inverse: &[u32],
     a: &mut [u8],
 )
     requires { ⌜ Drawable context (now source) (now workspace) (now pairs) × (allowed? (context .n) (mapping .input) ≡ true) × OnRow context part ⌝ }
-    requires { ⌜ Prepared (mapping .method) (now products) (now luma) (now inverse) × (length (now a) ≡ 4 * (part .to - part .from)) ⌝ }
+    requires { ⌜ Prepared (mapping .method) (now products) (now luminances) (now inverse) × (length (now a) ≡ 4 * (part .to - part .from)) ⌝ }
     ensures { λ _. ⌜ MappingPainted context mapping part (now (source .entry)) (now (workspace .entry)) (now (workspace .exit)) ⌝ }
 {
     let count = part.to - part.from;
-    let lo = stage::start(context, part);
+    let lo = buffers::start(context, part);
     let hi = lo + 4 * count;
     let input = mapping.input;
-    stage::load(&workspace[..], source, context, pairs, input, part, a);
+    buffers::copy_layer(&workspace[..], source, context, input, part, a);
+    let seen = buffers::see(&workspace[..], source, context, pairs, input, part, a);
     let method = mapping.method;
     map_row(
         method,
         products,
-        luma,
+        luminances,
         inverse,
-        &a[..],
+        seen,
         &mut workspace[lo..hi],
         count,
     );
@@ -80,13 +81,13 @@ fn paint_rows(
     mapping: Mapping,
     rect: Rect,
     products: &[u64],
-    luma: &[u32],
+    luminances: &[u32],
     inverse: &[u32],
     a: &mut [u8],
 )
     requires { ⌜ Drawable context (now source) (now workspace) (now pairs) × (allowed? (context .n) (mapping .input) ≡ true) ⌝ }
     requires { ⌜ Within (context .w) (context .h) rect × (rect .left ≤ rect .right) ⌝ }
-    requires { ⌜ Prepared (mapping .method) (now products) (now luma) (now inverse) × (length (now a) ≡ 4 * (rect .right - rect .left)) ⌝ }
+    requires { ⌜ Prepared (mapping .method) (now products) (now luminances) (now inverse) × (length (now a) ≡ 4 * (rect .right - rect .left)) ⌝ }
     ensures { λ _. ⌜ MappingDrawn context mapping rect (now (source .entry)) (now (workspace .entry)) (now (workspace .exit)) ⌝ }
 {
     let left = rect.left;
@@ -107,7 +108,7 @@ fn paint_rows(
             mapping,
             part,
             products,
-            luma,
+            luminances,
             inverse,
             a,
         );
@@ -134,9 +135,9 @@ pub fn draw_map(
     }
     let mut a = [0u8; window::ROW];
     let mut products = [0u64; 4096];
-    let mut luma = [0u32; 768];
+    let mut luminances = [0u32; 768];
     let mut inverse = [0u32; 512];
-    let method = prepare(map, values, &mut products, &mut luma, &mut inverse);
+    let method = prepare(map, values, &mut products, &mut luminances, &mut inverse);
     let mapping = Mapping { method, input };
     let k = 4 * (rect.right - rect.left);
     paint_rows(
@@ -147,7 +148,7 @@ pub fn draw_map(
         mapping,
         rect,
         &products,
-        &luma,
+        &luminances,
         &inverse,
         &mut a[..k],
     );

@@ -1,2 +1,2 @@
 -- Laws of erode and dilate on a picture.
-pub mod Extremes
+pub mod ExtremeBanded

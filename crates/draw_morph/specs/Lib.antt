@@ -1,2 +1,2 @@
 -- Erode and dilate along lines.
-pub mod Extremes
+pub mod ExtremeRule

@@ -4,9 +4,9 @@ use mathlib.Core.List.{List}
 use Rattle.pixel.specs.declared.Pixel.{Pixel}
 use Rattle.filter.specs.declared.Input.{Input}
 use Rattle.filter.specs.declared.Rect.{Rect}
-use Rattle.stage.specs.declared.Context.{Context}
-use Rattle.stage.specs.Shown.{shown}
-use Rattle.stage.specs.Context.{DrawnIn}
+use Rattle.buffers.specs.declared.Context.{Context}
+use Rattle.buffers.specs.Shown.{shown}
+use Rattle.buffers.specs.Context.{DrawnIn}
 
 -- each pixel of the rectangle is f of the two inputs' at its place
 abbrev pub PairDrawn : Context → (Pixel → Pixel → Pixel) → Input → Input → Rect → List ℕ → List ℕ → List ℕ → Type 0

@@ -5,7 +5,7 @@ ghost use lib.ListN.{length};
 ghost use Rattle.window.specs.Store.{WorkBuffer};
 ghost use Rattle.pixel.specs.Bytes.{ValidRow};
 ghost use Rattle.filter.specs.Kinds.{arithmeticOf};
-ghost use Rattle.draw_pair.specs.Code.{Prepared, RowWorked};
+ghost use Rattle.draw_pair.specs.Code.{Prepared, PairRowWorked};
 use super::Method;
 use filter::Sheet;
 use number::Fixed;
@@ -35,11 +35,11 @@ pub fn pair_row(
 )
     requires { ⌜ Prepared method (now sums) × ValidRow (now a) n × ValidRow (now b) n ⌝ }
     requires { ⌜ (length (now a) ≡ 4 * n) × (length (now b) ≡ 4 * n) × (length (now f) ≡ 4 * n) × (length (now g) ≡ 4 * n) × (length (now dst) ≡ 4 * n) ⌝ }
-    ensures { λ _. ⌜ RowWorked method n (now (a .entry)) (now (b .entry)) (now (dst .entry)) (now (dst .exit)) ⌝ }
+    ensures { λ _. ⌜ PairRowWorked method n (now (a .entry)) (now (b .entry)) (now (dst .entry)) (now (dst .exit)) ⌝ }
     ensures { λ _. ⌜ WorkBuffer (now (f .entry)) (now (f .exit)) × WorkBuffer (now (g .entry)) (now (g .exit)) ⌝ }
 {
     match method {
-        Method::Composite(o) => raster_composite::composite_row(o, a, b, f, g, dst, n),
-        Method::Combine(k) => raster_arithmetic::combine_row(k, sums, a, b, dst, n),
+        Method::ByOperator(o) => kernel_composite::composite_row(o, a, b, f, g, dst, n),
+        Method::ByArithmetic(k) => kernel_arithmetic::arithmetic_row(k, sums, a, b, dst, n),
     }
 }

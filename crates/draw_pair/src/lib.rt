@@ -6,15 +6,17 @@ ghost use mathlib.Core.Path.{_≡_};
 ghost use mathlib.Core.Bool.{true};
 ghost use Prim.Native.Nat.{_-_, _*_, _≤_};
 ghost use lib.ListN.{length};
-ghost use Rattle.pixel.specs.Arithmetic.{combined};
+ghost use Rattle.pixel.specs.Arithmetic.{byArithmetic};
 ghost use Rattle.filter.specs.declared.Pair.the-variants as P;
 ghost use Rattle.filter.specs.Kinds.{arithmeticOf, paired};
 ghost use Rattle.filter.specs.Signature.{pairNumbers};
 ghost use Rattle.filter.specs.Checks.{allowed?};
 ghost use Rattle.filter.specs.Accepted.{Within, Ranged};
-ghost use Rattle.stage.specs.Context.{Drawable, OnRow};
+ghost use Rattle.buffers.specs.Context.{Drawable, OnRow};
 ghost use Rattle.draw_pair.specs.Pair.{PairDrawn};
 ghost use Rattle.draw_pair.specs.Code.{Prepared, PairingPainted, PairingDrawn};
+use buffers::Context;
+use buffers::RowPart;
 use filter::Input;
 use filter::Pair;
 use filter::Rect;
@@ -24,17 +26,16 @@ use kinds::pair_row;
 use number::Fixed;
 use pixel::Arithmetic;
 use pixel::Operator;
-use stage::Context;
-use stage::RowPart;
 
 // How a kind works two pixels, with what it takes of the step's values.
 pub enum Method {
-    Composite(Operator),
-    Combine(Arithmetic),
+    ByOperator(Operator),
+    ByArithmetic(Arithmetic),
 }
 
-// A method and the inputs that it works.
+// A method and the inputs that it works, in the context of a step.
 pub struct Pairing {
+    pub context: Context,
     pub method: Method,
     pub i: Input,
     pub j: Input,
@@ -44,7 +45,6 @@ pub struct Pairing {
 fn paint(
     workspace: &mut [u8],
     source: &[u8],
-    context: Context,
     pairs: &[u8],
     pairing: Pairing,
     part: RowPart,
@@ -54,24 +54,28 @@ fn paint(
     f: &mut [u8],
     g: &mut [u8],
 )
-    requires { ⌜ Drawable context (now source) (now workspace) (now pairs) × OnRow context part × Prepared (pairing .method) (now sums) ⌝ }
-    requires { ⌜ (allowed? (context .n) (pairing .i) ≡ true) × (allowed? (context .n) (pairing .j) ≡ true) ⌝ }
+    requires { ⌜ Drawable (pairing .context) (now source) (now workspace) (now pairs) × Prepared (pairing .method) (now sums) ⌝ }
+    requires { ⌜ (allowed? (pairing .context .n) (pairing .i) ≡ true) × (allowed? (pairing .context .n) (pairing .j) ≡ true) × OnRow (pairing .context) part ⌝ }
     requires { ⌜ (length (now a) ≡ 4 * (part .to - part .from)) × (length (now b) ≡ 4 * (part .to - part .from)) ⌝ }
     requires { ⌜ (length (now f) ≡ 4 * (part .to - part .from)) × (length (now g) ≡ 4 * (part .to - part .from)) ⌝ }
-    ensures { λ _. ⌜ PairingPainted context pairing part (now (source .entry)) (now (workspace .entry)) (now (workspace .exit)) ⌝ }
+    ensures { λ _. ⌜ PairingPainted pairing part (now (source .entry)) (now (workspace .entry)) (now (workspace .exit)) ⌝ }
 {
+    let context = pairing.context;
     let count = part.to - part.from;
-    let lo = stage::start(context, part);
+    let lo = buffers::start(context, part);
     let hi = lo + 4 * count;
     let i = pairing.i;
     let j = pairing.j;
-    stage::load_two(&workspace[..], source, context, pairs, i, j, part, a, b);
+    buffers::copy_layer(&workspace[..], source, context, i, part, a);
+    buffers::copy_layer(&workspace[..], source, context, j, part, b);
+    let first = buffers::see(&workspace[..], source, context, pairs, i, part, a);
+    let second = buffers::see(&workspace[..], source, context, pairs, j, part, b);
     let method = pairing.method;
     pair_row(
         method,
         sums,
-        &a[..],
-        &b[..],
+        first,
+        second,
         f,
         g,
         &mut workspace[lo..hi],
@@ -83,7 +87,6 @@ fn paint(
 fn paint_rows(
     workspace: &mut [u8],
     source: &[u8],
-    context: Context,
     pairs: &[u8],
     pairing: Pairing,
     rect: Rect,
@@ -93,12 +96,12 @@ fn paint_rows(
     f: &mut [u8],
     g: &mut [u8],
 )
-    requires { ⌜ Drawable context (now source) (now workspace) (now pairs) × Prepared (pairing .method) (now sums) ⌝ }
-    requires { ⌜ (allowed? (context .n) (pairing .i) ≡ true) × (allowed? (context .n) (pairing .j) ≡ true) ⌝ }
-    requires { ⌜ Within (context .w) (context .h) rect × (rect .left ≤ rect .right) ⌝ }
+    requires { ⌜ Drawable (pairing .context) (now source) (now workspace) (now pairs) × Prepared (pairing .method) (now sums) ⌝ }
+    requires { ⌜ (allowed? (pairing .context .n) (pairing .i) ≡ true) × (allowed? (pairing .context .n) (pairing .j) ≡ true) ⌝ }
+    requires { ⌜ Within (pairing .context .w) (pairing .context .h) rect × (rect .left ≤ rect .right) ⌝ }
     requires { ⌜ (length (now a) ≡ 4 * (rect .right - rect .left)) × (length (now b) ≡ 4 * (rect .right - rect .left)) ⌝ }
     requires { ⌜ (length (now f) ≡ 4 * (rect .right - rect .left)) × (length (now g) ≡ 4 * (rect .right - rect .left)) ⌝ }
-    ensures { λ _. ⌜ PairingDrawn context pairing rect (now (source .entry)) (now (workspace .entry)) (now (workspace .exit)) ⌝ }
+    ensures { λ _. ⌜ PairingDrawn pairing rect (now (source .entry)) (now (workspace .entry)) (now (workspace .exit)) ⌝ }
 {
     let left = rect.left;
     let right = rect.right;
@@ -110,19 +113,7 @@ fn paint_rows(
             from: left,
             to: right,
         };
-        paint(
-            workspace,
-            source,
-            context,
-            pairs,
-            pairing,
-            part,
-            sums,
-            a,
-            b,
-            f,
-            g,
-        );
+        paint(workspace, source, pairs, pairing, part, sums, a, b, f, g);
     }
 }
 
@@ -130,16 +121,15 @@ fn paint_rows(
 fn draw_prepared(
     workspace: &mut [u8],
     source: &[u8],
-    context: Context,
     pairs: &[u8],
     pairing: Pairing,
     rect: Rect,
     sums: &[u8],
 )
-    requires { ⌜ Drawable context (now source) (now workspace) (now pairs) × Prepared (pairing .method) (now sums) ⌝ }
-    requires { ⌜ (allowed? (context .n) (pairing .i) ≡ true) × (allowed? (context .n) (pairing .j) ≡ true) ⌝ }
-    requires { ⌜ Within (context .w) (context .h) rect × (rect .left ≤ rect .right) ⌝ }
-    ensures { λ _. ⌜ PairingDrawn context pairing rect (now (source .entry)) (now (workspace .entry)) (now (workspace .exit)) ⌝ }
+    requires { ⌜ Drawable (pairing .context) (now source) (now workspace) (now pairs) × Prepared (pairing .method) (now sums) ⌝ }
+    requires { ⌜ (allowed? (pairing .context .n) (pairing .i) ≡ true) × (allowed? (pairing .context .n) (pairing .j) ≡ true) ⌝ }
+    requires { ⌜ Within (pairing .context .w) (pairing .context .h) rect × (rect .left ≤ rect .right) ⌝ }
+    ensures { λ _. ⌜ PairingDrawn pairing rect (now (source .entry)) (now (workspace .entry)) (now (workspace .exit)) ⌝ }
 {
     let mut a = [0u8; window::ROW];
     let mut b = [0u8; window::ROW];
@@ -149,7 +139,6 @@ fn draw_prepared(
     paint_rows(
         workspace,
         source,
-        context,
         pairs,
         pairing,
         rect,
@@ -175,14 +164,19 @@ fn draw_arithmetic(
     requires { ⌜ Drawable context (now source) (now workspace) (now pairs) × Ranged (pairNumbers P.Arithmetic) values ⌝ }
     requires { ⌜ (allowed? (context .n) i ≡ true) × (allowed? (context .n) j ≡ true) ⌝ }
     requires { ⌜ Within (context .w) (context .h) rect × (rect .left ≤ rect .right) ⌝ }
-    ensures { λ _. ⌜ PairDrawn context (combined (arithmeticOf values)) i j rect (now (source .entry)) (now (workspace .entry)) (now (workspace .exit)) ⌝ }
+    ensures { λ _. ⌜ PairDrawn context (byArithmetic (arithmeticOf values)) i j rect (now (source .entry)) (now (workspace .entry)) (now (workspace .exit)) ⌝ }
 {
     let mut sums = [0u8; 65536];
     let k = arithmetic_of(values);
-    raster_arithmetic::prepare(k, &mut sums);
-    let method = Method::Combine(k);
-    let pairing = Pairing { method, i, j };
-    draw_prepared(workspace, source, context, pairs, pairing, rect, &sums);
+    kernel_arithmetic::prepare(k, &mut sums);
+    let method = Method::ByArithmetic(k);
+    let pairing = Pairing {
+        context,
+        method,
+        i,
+        j,
+    };
+    draw_prepared(workspace, source, pairs, pairing, rect, &sums);
 }
 
 // The step inside one rectangle; nothing else of the workspace changes. `pairs` is the table of its space, or empty. An operator has no table of
@@ -207,17 +201,14 @@ pub fn draw_pair(
     }
     match pair {
         Pair::Operator(o) => {
-            let method = Method::Composite(o);
-            let pairing = Pairing { method, i, j };
-            draw_prepared(
-                workspace,
-                source,
+            let method = Method::ByOperator(o);
+            let pairing = Pairing {
                 context,
-                pairs,
-                pairing,
-                rect,
-                &source[..0],
-            )
+                method,
+                i,
+                j,
+            };
+            draw_prepared(workspace, source, pairs, pairing, rect, &source[..0])
         }
         Pair::Arithmetic => draw_arithmetic(workspace, source, context, pairs, values, i, j, rect),
     }

@@ -1,2 +1,2 @@
 -- Laws of the rules of a pass.
-pub mod Passing
+pub mod PassByRule

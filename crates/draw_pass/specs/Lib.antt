@@ -1,3 +1,3 @@
 -- Blur, erode and dilate by one scheme.
-pub mod Passed
-pub mod Rules
+pub mod PassDrawn
+pub mod PassRule

@@ -5,50 +5,26 @@ ghost use mathlib.Core.Bool.{true};
 ghost use Prim.Native.Nat.{_*_, _≤_};
 ghost use lib.ListN.{length};
 ghost use Rattle.window.specs.Store.{WorkBuffer};
-ghost use Rattle.filter.specs.Kinds.{backOf, aheadOf};
 ghost use Rattle.filter.specs.Checks.{allowed?};
 ghost use Rattle.filter.specs.Accepted.{Within, mostOf};
 ghost use Rattle.filter.specs.Bytes.{size};
 ghost use Rattle.filter.specs.Limits.{longestSide, mostPixels};
-ghost use Rattle.stage.specs.Context.{Readable};
+ghost use Rattle.buffers.specs.Context.{Readable};
 ghost use Rattle.draw_window.specs.Strips.{StripOn, areaOf, StripAcross, StripDown};
-ghost use Rattle.draw_pass.specs.Passed.{PassDrawn};
-ghost use Rattle.draw_pass.specs.Rules.{ruleOf};
+ghost use Rattle.draw_pass.specs.PassDrawn.{PassDrawn};
+ghost use Rattle.draw_pass.specs.PassRule.{ruleOf};
+use buffers::Context;
 use draw_blur::blur_across;
 use draw_blur::blur_down;
 use draw_morph::extreme_across;
 use draw_morph::extreme_down;
-use draw_window::reached;
+use draw_window::looked_at;
 use filter::Input;
 use filter::Pass;
 use filter::Rect;
-use raster_fold::Extreme;
-use stage::Context;
-use window::spread_of;
-
-// How far a result looks back along a line.
-fn back_of(pass: Pass, d: usize) -> usize
-    requires { ⌜ d ≤ mostOf pass ⌝ }
-    ensures { λ r. ⌜ r ≡ backOf pass d ⌝ }
-{
-    match pass {
-        Pass::Blur => spread_of(d),
-        Pass::Erode => d,
-        Pass::Dilate => d,
-    }
-}
-
-// And ahead.
-fn ahead_of(pass: Pass, d: usize) -> usize
-    requires { ⌜ d ≤ mostOf pass ⌝ }
-    ensures { λ r. ⌜ (r ≡ aheadOf pass d) × (r ≤ longestSide) ⌝ }
-{
-    match pass {
-        Pass::Blur => spread_of(d),
-        Pass::Erode => d,
-        Pass::Dilate => d,
-    }
-}
+use filter::kinds::ahead_of;
+use filter::kinds::back_of;
+use kernel_fold::Extreme;
 
 // A strip of the input, worked along its rows, at the start of scratch.
 fn across(
@@ -118,7 +94,7 @@ pub fn draw_pass(
     }
     let back = back_of(pass, dy);
     let ahead = ahead_of(pass, dy);
-    let span = reached(context.h, rect.top, rect.bottom, back, ahead);
+    let span = looked_at(context.h, rect.top, rect.bottom, back, ahead);
     let strip = Rect {
         left: rect.left,
         right: rect.right,
@@ -137,5 +113,5 @@ pub fn draw_pass(
         dx,
     );
     let at = down(scratch, context.w * context.h, pass, strip, dy);
-    stage::store_rows(workspace, context, rect, &scratch[..], at, strip.top);
+    buffers::store_rows(workspace, context, rect, &scratch[..], at, strip.top);
 }

@@ -1,4 +1,4 @@
 -- Laws of rows that are drawn.
-pub mod Shifts
-pub mod Stacks
-pub mod Shapes
+pub mod ShiftedRows
+pub mod StackedRows
+pub mod KindlessShapes

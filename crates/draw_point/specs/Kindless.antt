@@ -5,9 +5,9 @@ use Rattle.filter.specs.declared.Rect.{Rect}
 use Rattle.filter.specs.declared.Shape.{Shape}
 use Rattle.filter.specs.declared.Shape.the-variants as S
 use Rattle.filter.specs.Kinds.{workOf}
-use Rattle.stage.specs.declared.Context.{Context}
-use Rattle.stage.specs.Shown.{shown}
-use Rattle.stage.specs.Context.{DrawnIn}
+use Rattle.buffers.specs.declared.Context.{Context}
+use Rattle.buffers.specs.Shown.{shown}
+use Rattle.buffers.specs.Context.{DrawnIn}
 
 unfoldable pub Kindless : Shape → Type 0
 Kindless (S.Flood c) = Unit {0}

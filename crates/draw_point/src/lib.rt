@@ -7,16 +7,16 @@ ghost use Prim.Native.Nat.{_≤_};
 ghost use Rattle.filter.specs.Kinds.{reads};
 ghost use Rattle.filter.specs.Earlier.{Earlier};
 ghost use Rattle.filter.specs.Accepted.{Within, Measured};
-ghost use Rattle.stage.specs.Context.{OnRow, Drawable};
+ghost use Rattle.buffers.specs.Context.{OnRow, Drawable};
 ghost use Rattle.draw_point.specs.Kindless.{Kindless, ShapeDrawn};
-ghost use Rattle.draw_point.specs.Row.{Workable, WorkRow, RowDrawn};
+ghost use Rattle.draw_point.specs.RowDrawn.{Workable, WorkRow, RowDrawn};
+use buffers::Context;
+use buffers::RowPart;
 use filter::Rect;
 use filter::Shape;
 use flood::paint_flood;
 use merge::paint_merge;
 use offset::paint_offset;
-use stage::Context;
-use stage::RowPart;
 
 // One row; `pairs` is the table of the step's space, or empty, and a, g and row are work rows.
 fn paint(

@@ -6,16 +6,16 @@ ghost use Rattle.window.specs.Store.{WorkBuffer};
 ghost use Rattle.pixel.specs.Bytes.{ValidRow};
 ghost use Rattle.filter.specs.declared.Shape.the-variants as S;
 ghost use Rattle.filter.specs.Checks.{allowed?};
-ghost use Rattle.stage.specs.Shown.{shown};
-ghost use Rattle.stage.specs.Context.{OnRow, Drawable};
-ghost use Rattle.draw_point.specs.Row.{Workable, WorkRow, RowDrawn, inputAt, RowStacked, Laid};
+ghost use Rattle.buffers.specs.Shown.{shown};
+ghost use Rattle.buffers.specs.Context.{OnRow, Readable, Drawable, LoadedPart};
+ghost use Rattle.draw_point.specs.RowDrawn.{Workable, WorkRow, RowDrawn, mergeInputAt, RowStacked, Laid};
+use buffers::Context;
+use buffers::RowPart;
 use filter::Input;
 use filter::Inputs;
-use stage::Context;
-use stage::RowPart;
 
-fn input_at(inputs: Inputs, j: usize) -> Input
-    ensures { λ r. ⌜ r ≡ inputAt inputs j ⌝ }
+fn merge_input_at(inputs: Inputs, j: usize) -> Input
+    ensures { λ r. ⌜ r ≡ mergeInputAt inputs j ⌝ }
 {
     if j == 0 {
         return inputs.first;
@@ -47,8 +47,27 @@ fn lay(
     ensures { λ _. ⌜ Laid (shown context (now (source .entry)) (now (workspace .entry)) i) part (now (under .entry)) (now (under .exit)) ⌝ }
     ensures { λ _. ⌜ ValidRow (now (under .exit)) (part .to - part .from) ⌝ }
 {
-    stage::load(workspace, source, context, pairs, i, part, a);
-    raster_composite::over_onto(&a[..], g, under, part.to - part.from);
+    buffers::copy_layer(workspace, source, context, i, part, a);
+    let seen = buffers::see(workspace, source, context, pairs, i, part, a);
+    kernel_composite::over_onto(seen, g, under, part.to - part.from);
+}
+
+// The first input's row.
+fn load_first(
+    workspace: &[u8],
+    source: &[u8],
+    context: Context,
+    pairs: &[u8],
+    i: Input,
+    part: RowPart,
+    row: &mut [u8],
+)
+    requires { ⌜ Readable context (now source) (now workspace) (now pairs) × OnRow context part ⌝ }
+    requires { ⌜ (allowed? (context .n) i ≡ true) × WorkRow (part .from) (part .to) (now row) ⌝ }
+    ensures { λ _. ⌜ LoadedPart (shown context (now (source .entry)) (now (workspace .entry)) i) part (now (row .entry)) (now (row .exit)) ⌝ }
+{
+    buffers::copy_own(workspace, source, context, i, part, row);
+    buffers::load(workspace, source, context, pairs, i, part, row);
 }
 
 // The inputs' rows, each laid over those before it.
@@ -69,9 +88,9 @@ fn stack(
     ensures { λ _. ⌜ RowStacked (shown context (now (source .entry)) (now (workspace .entry))) inputs count part (now (row .entry)) (now (row .exit)) ⌝ }
 {
     let first = inputs.first;
-    stage::load(workspace, source, context, pairs, first, part, row);
+    load_first(workspace, source, context, pairs, first, part, row);
     for j in 1..count {
-        let input = input_at(inputs, j);
+        let input = merge_input_at(inputs, j);
         lay(workspace, source, context, pairs, input, part, a, g, row);
     }
 }
@@ -106,5 +125,5 @@ pub fn paint_merge(
         g,
         row,
     );
-    stage::store(workspace, context, part, &row[..], 0);
+    buffers::store(workspace, context, part, &row[..], 0);
 }

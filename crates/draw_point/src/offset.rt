@@ -4,14 +4,14 @@ ghost use Prim.Native.Nat.{_-_, min};
 ghost use Rattle.window.specs.Store.{WorkBuffer};
 ghost use Rattle.pixel.specs.Alpha.{clear};
 ghost use Rattle.filter.specs.declared.Shape.the-variants as S;
-ghost use Rattle.stage.specs.Context.{Canvas, LayerIn, OnRow, RowPainted};
-ghost use Rattle.draw_point.specs.Row.{Workable, WorkRow, RowDrawn};
+ghost use Rattle.buffers.specs.Context.{InLimits, LayerIn, OnRow, RowPainted};
+ghost use Rattle.draw_point.specs.RowDrawn.{Workable, WorkRow, RowDrawn};
 use super::flood::paint_flood;
+use buffers::Context;
+use buffers::RowPart;
 use filter::Input;
 use filter::Shift;
 use pixel::Pixel;
-use stage::Context;
-use stage::RowPart;
 
 // t - m, cut to 0..w.
 fn cut(t: usize, m: usize, w: usize) -> usize
@@ -29,7 +29,7 @@ fn cut(t: usize, m: usize, w: usize) -> usize
 
 // A part of a row that shows nothing.
 fn paint_none(workspace: &mut [u8], context: Context, part: RowPart)
-    requires { ⌜ Canvas context × LayerIn context (now workspace) × OnRow context part ⌝ }
+    requires { ⌜ InLimits context × LayerIn context (now workspace) × OnRow context part ⌝ }
     ensures { λ _. ⌜ RowPainted context part (λ x. clear) (now (workspace .entry)) (now (workspace .exit)) ⌝ }
 {
     let none = Pixel {
@@ -77,15 +77,16 @@ pub fn paint_offset(
         from: first,
         to: last,
     };
-    stage::load(&workspace[..], source, context, pairs, i, loaded, a);
+    buffers::copy_own(&workspace[..], source, context, i, loaded, a);
+    buffers::load(&workspace[..], source, context, pairs, i, loaded, a);
     let whole = RowPart {
         y: part.y,
         from: 0,
         to: w,
     };
-    let lo = stage::start(context, whole);
+    let lo = buffers::start(context, whole);
     let hi = lo + 4 * w;
-    raster::row::shift_row(
+    kernel_row::row::shift_row(
         &a[..],
         last - first,
         right + first,

@@ -1,5 +1,5 @@
 -- Laws of rules along the lines of a picture.
-pub mod Channels
-pub mod Rules
-pub mod Strips
-pub mod Bands
+pub mod PixelChannels
+pub mod BandedRules
+pub mod StripRows
+pub mod BandIsEnough

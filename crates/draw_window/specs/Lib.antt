@@ -1,4 +1,4 @@
 -- Steps that look around: definitions that only the code needs; no promise to a caller cites them.
-pub mod Reached
-pub mod Passes
+pub mod LookedAt
+pub mod LineRules
 pub mod Strips

@@ -4,10 +4,10 @@ use Prim.Native.Nat.{ℕ, _-_, _*_, _≤_, _<_}
 use mathlib.Core.List.{List}
 use Rattle.filter.specs.declared.Input.{Input}
 use Rattle.filter.specs.declared.Rect.{Rect}
-use Rattle.stage.specs.declared.Context.{Context}
-use Rattle.stage.specs.Shown.{shown}
-use Rattle.stage.specs.Strip.{Strip}
-use Rattle.draw_window.specs.Passes.{Rule, acrossOf, Worked}
+use Rattle.buffers.specs.declared.Context.{Context}
+use Rattle.buffers.specs.Shown.{shown}
+use Rattle.buffers.specs.Strip.{Strip}
+use Rattle.draw_window.specs.LineRules.{Rule, acrossOf, Worked}
 
 -- some columns and some rows of a canvas of w by h
 pub record StripOn (w h : ℕ) (r : Rect) : Type 0 where

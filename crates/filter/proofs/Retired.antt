@@ -17,15 +17,15 @@ use Rattle.filter.specs.declared.Answer.the-variants.{Done, Canvas, Sour
 use Rattle.filter.specs.Steps.{numberAt}
 use Rattle.filter.specs.Answers.{numberOf}
 use Rattle.filter.specs.Checks.{stepAnswer}
-use Rattle.filter.specs.Retired.{widest, boxesOf, boxes, worked, widestOf, mostBytes, mostSum, widestBy, boxes?, stepAnswerWith}
-use Rattle.filter.proofs.Units.{fixed-in-range}
+use Rattle.filter.specs.Retired.{widest, boxesOf, boxes, boxesWorked, widestOf, mostBytes, mostSum, widestBy, boxes?, stepAnswerWith}
+use Rattle.filter.proofs.UnitsInRange.{fixed-in-range}
 
 -- the boxes are those of the passes that are worked
-pub passes-are : (n d : ℕ) (f : ℕ → ℕ) → passes n d f ≡ worked n (boxes d) f
-unfolding passesOf boxesOf worked
+pub passes-are : (n d : ℕ) (f : ℕ → ℕ) → passes n d f ≡ boxesWorked n (boxes d) f
+unfolding passesOf boxesOf boxesWorked
 passes-are n d f = go (ltb d 2) (eqb (d % 2) 1)
   where
-    go : (small odd : Bool) → passesOf n small odd (d / 2) f ≡ worked n (boxesOf small odd (d / 2)) f
+    go : (small odd : Bool) → passesOf n small odd (d / 2) f ≡ boxesWorked n (boxesOf small odd (d / 2)) f
     go true odd = refl
     go false true = refl
     go false false = refl

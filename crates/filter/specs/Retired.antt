@@ -29,9 +29,9 @@ abbrev pub boxes : ℕ → List Axis
 boxes d = boxesOf (ltb d 2) (eqb (d % 2) 1) (d / 2)
 
 -- boxes worked one after another along a line of n places
-unfoldable pub worked : ℕ → List Axis → (ℕ → ℕ) → ℕ → ℕ
-worked n [] f = f
-worked n (b ∷ bs) f = worked n bs (box n (b .back) (b .ahead) f)
+unfoldable pub boxesWorked : ℕ → List Axis → (ℕ → ℕ) → ℕ → ℕ
+boxesWorked n [] f = f
+boxesWorked n (b ∷ bs) f = boxesWorked n bs (box n (b .back) (b .ahead) f)
 
 -- the places of the widest of some boxes
 unfoldable pub widestOf : List Axis → ℕ

@@ -9,11 +9,10 @@ use Rattle.filter.specs.declared.Input.the-variants.{Source, SourceAlpha
 use Rattle.filter.specs.declared.Rect.{Rect}
 use Rattle.filter.specs.declared.Resolved.{Resolved}
 use Rattle.filter.specs.declared.Step.{Step}
-use Rattle.filter.specs.Rect.{boundsOf, canvasOf, meet}
+use Rattle.filter.specs.Rect.{boundsOf}
 use Rattle.filter.specs.Effect.{Env, Effect}
-use Rattle.filter.specs.Layers.{reached}
 use Rattle.filter.specs.Kinds.{work, reads}
-use Rattle.filter.specs.Steps.{shaped, resolved, stepAt}
+use Rattle.filter.specs.Steps.{resolved, stepAt}
 
 -- "The source is sRGB. A layer is kept in its step's space"
 unfoldable pub spaceOf : List Step → I.Input → S.Space
@@ -35,7 +34,3 @@ effectOf w h spaces s = effectBy w h spaces (s .space) (resolved s) (boundsOf (s
 -- step n of a sheet
 abbrev pub effectsOf : ℕ → ℕ → List Step → ℕ → Effect
 effectsOf w h steps n = effectOf w h (spaceOf steps) (stepAt steps n)
-
--- a step's redraw rectangle from those of its inputs, in whatever spaces these are kept
-abbrev pub damageOf : ℕ → ℕ → Step → (I.Input → Rect) → Rect
-damageOf w h s z = meet (meet (canvasOf w h) (boundsOf (s .region))) (reached (reads (shaped s)) z)

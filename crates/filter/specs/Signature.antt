@@ -25,8 +25,8 @@ abbrev pub alike : ℕ → Range → Numbers
 alike n r = record { first = upTo n r; second = upTo n r; third = upTo n r; fourth = upTo n r }
 
 -- how many numbers there are, and what is allowed for number i
-abbrev pub countOf : Numbers → ℕ
-countOf ns = ns .fourth .end
+abbrev pub numberCount : Numbers → ℕ
+numberCount ns = ns .fourth .end
 
 abbrev pub rangeIn : Numbers → ℕ → Range
 rangeIn ns i =
@@ -50,16 +50,16 @@ passNumbers Pass.Erode = alike 2 R.Radius
 passNumbers Pass.Dilate = alike 2 R.Radius
 
 -- bytes, inputs at least and in all, and the numbers
-abbrev pub row : ℕ → ℕ → ℕ → Numbers → Signature
-row b l i ns = record { bytes = b; least = l; inputs = i; numbers = ns }
+abbrev pub signature : ℕ → ℕ → ℕ → Numbers → Signature
+signature b l i ns = record { bytes = b; least = l; inputs = i; numbers = ns }
 
 abbrev pub signatureOf : Kind → Signature
-signatureOf (K.Flood r g b) = row 3 0 0 (alike 1 R.Fraction)
-signatureOf K.Offset = row 0 1 1 (alike 2 R.Offset)
-signatureOf (K.Pass p) = row 0 1 1 (passNumbers p)
-signatureOf (K.Map m) = row 0 1 1 (mapNumbers m)
-signatureOf (K.Pair p) = row 0 1 2 (pairNumbers p)
-signatureOf (K.Merge n) = row 0 1 n (alike 0 R.Coefficient)
+signatureOf (K.Flood r g b) = signature 3 0 0 (alike 1 R.Fraction)
+signatureOf K.Offset = signature 0 1 1 (alike 2 R.Offset)
+signatureOf (K.Pass p) = signature 0 1 1 (passNumbers p)
+signatureOf (K.Map m) = signature 0 1 1 (mapNumbers m)
+signatureOf (K.Pair p) = signature 0 1 2 (pairNumbers p)
+signatureOf (K.Merge n) = signature 0 1 n (alike 0 R.Coefficient)
 
 abbrev pub byteFieldsOf : Kind → ℕ
 byteFieldsOf k = signatureOf k .bytes
@@ -68,7 +68,7 @@ abbrev pub inputsOf : Kind → ℕ
 inputsOf k = signatureOf k .inputs
 
 abbrev pub numbersOf : Kind → ℕ
-numbersOf k = countOf (signatureOf k .numbers)
+numbersOf k = numberCount (signatureOf k .numbers)
 
 abbrev pub rangeAt : Kind → ℕ → Range
 rangeAt k i = rangeIn (signatureOf k .numbers) i

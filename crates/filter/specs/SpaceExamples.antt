@@ -25,7 +25,7 @@ use Rattle.filter.specs.Rect.{canvasOf, inside}
 use Rattle.filter.specs.Picture.{blank, patch}
 use Rattle.filter.specs.Layers.{rendered, replaced, initial}
 use Rattle.filter.specs.Kinds.{shifted, stacked, workOf}
-use Rattle.filter.specs.Steps.{noWire, noOperand, shaped}
+use Rattle.filter.specs.Steps.{noInput, noNumber, shaped}
 use Rattle.filter.specs.Sheets.{spaceOf, effectOf, effectsOf}
 
 -- a step of two inputs and one number in ten-thousandths, the others 0
@@ -33,8 +33,8 @@ abbrev pub stepIn : S.Space → Kind → I.Input → I.Input → ℕ → Step
 stepIn s k i j a = record {
   kind = k;
   region = record { x = 0; y = 0; width = 1; height = 1 };
-  inputs = record { input = i } ∷ record { input = j } ∷ replicate 2 noWire;
-  numbers = record { number = Decimal (pos a) } ∷ replicate 19 noOperand;
+  inputs = record { input = i } ∷ record { input = j } ∷ replicate 2 noInput;
+  numbers = record { number = Decimal (pos a) } ∷ replicate 19 noNumber;
   space = s;
 }
 

@@ -7,8 +7,13 @@ use super::Pair;
 use super::Pass;
 use super::Signature;
 use number::Range;
+use window::spread_of;
 ghost use mathlib.Core.Path.{_≡_};
-ghost use Rattle.filter.specs.Signature.{alike, countOf, rangeIn, mapNumbers, pairNumbers, passNumbers, signatureOf};
+ghost use Prim.Native.Nat.{_≤_};
+ghost use Rattle.filter.specs.Accepted.{mostOf};
+ghost use Rattle.filter.specs.Kinds.{backOf, aheadOf};
+ghost use Rattle.filter.specs.Limits.{longestSide};
+ghost use Rattle.filter.specs.Signature.{alike, numberCount, rangeIn, mapNumbers, pairNumbers, passNumbers, signatureOf};
 
 // So many numbers of one range.
 fn numbers_alike(count: usize, range: Range) -> Numbers
@@ -49,6 +54,30 @@ pub fn pass_numbers(pass: Pass) -> Numbers
         Pass::Blur => numbers_alike(2, Range::Deviation),
         Pass::Erode => numbers_alike(2, Range::Radius),
         Pass::Dilate => numbers_alike(2, Range::Radius),
+    }
+}
+
+// How far a pass of the size d looks back along a line.
+pub fn back_of(pass: Pass, d: usize) -> usize
+    requires { ⌜ d ≤ mostOf pass ⌝ }
+    ensures { λ o. ⌜ (o ≡ backOf pass d) × (o ≤ longestSide) ⌝ }
+{
+    match pass {
+        Pass::Blur => spread_of(d),
+        Pass::Erode => d,
+        Pass::Dilate => d,
+    }
+}
+
+// And ahead.
+pub fn ahead_of(pass: Pass, d: usize) -> usize
+    requires { ⌜ d ≤ mostOf pass ⌝ }
+    ensures { λ o. ⌜ (o ≡ aheadOf pass d) × (o ≤ longestSide) ⌝ }
+{
+    match pass {
+        Pass::Blur => spread_of(d),
+        Pass::Erode => d,
+        Pass::Dilate => d,
     }
 }
 
@@ -97,7 +126,7 @@ pub fn signature_of(kind: Kind) -> Signature
 
 // How many numbers a kind has.
 pub fn number_count(numbers: Numbers) -> usize
-    ensures { λ o. ⌜ o ≡ countOf numbers ⌝ }
+    ensures { λ o. ⌜ o ≡ numberCount numbers ⌝ }
 {
     let last = numbers.fourth;
     last.end

@@ -1,29 +1,29 @@
 // A step's inputs and numbers by their place.
 use super::Input;
-use super::Operand;
 use super::Sheet;
 use super::Step;
+use super::StepNumber;
 use number::Number;
 ghost use mathlib.Core.Path.{_≡_};
 ghost use Prim.Native.Nat.{_<_};
 ghost use lib.ListN.{getD};
-ghost use Rattle.filter.specs.Steps.{noOperand, inputAt, numberAt};
+ghost use Rattle.filter.specs.Steps.{noNumber, inputAt, numberAt};
 
 pub fn input_at(step: Step, i: usize) -> Input
     requires { ⌜ i < 4 ⌝ }
     ensures { λ o. ⌜ o ≡ inputAt step i ⌝ }
 {
-    let wire = step.inputs[i];
-    wire.input
+    let held = step.inputs[i];
+    held.input
 }
 
 // Zero behind the last.
-fn number_in(numbers: [Operand; Sheet::NUMBERS], i: usize) -> Number
-    ensures { λ o. ⌜ o ≡ getD numbers i noOperand .number ⌝ }
+fn number_in(numbers: [StepNumber; Sheet::NUMBERS], i: usize) -> Number
+    ensures { λ o. ⌜ o ≡ getD numbers i noNumber .number ⌝ }
 {
     if i < Sheet::NUMBERS {
-        let operand = numbers[i];
-        return operand.number;
+        let held = numbers[i];
+        return held.number;
     }
     Number::Decimal(0)
 }

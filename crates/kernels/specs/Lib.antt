@@ -1,2 +1,2 @@
 -- What plain numbers stand for in the exported names.
-pub mod Named
+pub mod PlainNumbers

@@ -3,8 +3,8 @@ ghost use Prim.Native.Nat.{ℕ, _+_, _*_, _≤_, _<_};
 ghost use lib.ListN.{length};
 ghost use Rattle.window.specs.Store.{byteAt, WorkBuffer};
 ghost use Rattle.window.specs.Ranges.{Apart};
-ghost use Rattle.raster_blur.specs.Place.{Rows};
-ghost use Rattle.raster_blur.specs.Blurred.{Blurred};
+ghost use Rattle.kernel_blur.specs.StridedRows.{Rows};
+ghost use Rattle.kernel_blur.specs.Blurred.{Blurred};
 
 #[no_mangle]
 pub extern "C" fn twillgoose_kernel_blur_lines(
@@ -21,7 +21,7 @@ pub extern "C" fn twillgoose_kernel_blur_lines(
     ensures { λ _. ⌜ Blurred d a b n count (now (buf .entry)) (now (buf .exit)) ⌝ }
     ensures { λ _. ⌜ WorkBuffer (now (sums .entry)) (now (sums .exit)) ⌝ }
 {
-    raster_blur::blur::blur_lines(buf, a, b, n, count, d, sums);
+    kernel_blur::blur::blur_lines(buf, a, b, n, count, d, sums);
 }
 
 #[no_mangle]
@@ -38,7 +38,7 @@ pub extern "C" fn twillgoose_kernel_copy_rows(
     requires { ⌜ (n ≤ step) × ((v : ℕ) → v < rows → (from + v * stride + n ≤ length (now src)) × (to + v * step + n ≤ length (now dst))) ⌝ }
     ensures { λ _. ⌜ Rows (λ v i. byteAt (now (src .entry)) from stride v i) to step n rows (now (dst .entry)) (now (dst .exit)) ⌝ }
 {
-    raster_blur::rows::copy_rows(src, from, stride, dst, to, step, n, rows);
+    kernel_blur::rows::copy_rows(src, from, stride, dst, to, step, n, rows);
 }
 
 #[no_mangle]
@@ -46,7 +46,7 @@ pub extern "C" fn twillgoose_kernel_spread(row: &[u8], dst: &mut [u8], at: usize
     requires { ⌜ (4 * w ≤ length (now row)) × (at + 32 * w ≤ length (now dst) + 28) ⌝ }
     ensures { λ _. ⌜ Rows (λ x c. byteAt (now (row .entry)) 0 4 x c) at 32 4 w (now (dst .entry)) (now (dst .exit)) ⌝ }
 {
-    raster_blur::rows::spread(row, dst, at, w);
+    kernel_blur::rows::deal_row(row, dst, at, w);
 }
 
 #[no_mangle]
@@ -54,5 +54,5 @@ pub extern "C" fn twillgoose_kernel_gather(src: &[u8], at: usize, row: &mut [u8]
     requires { ⌜ (at + 32 * w ≤ length (now src) + 28) × (4 * w ≤ length (now row)) ⌝ }
     ensures { λ _. ⌜ Rows (λ x c. byteAt (now (src .entry)) at 32 x c) 0 4 4 w (now (row .entry)) (now (row .exit)) ⌝ }
 {
-    raster_blur::rows::gather(src, at, row, w);
+    kernel_blur::rows::gather(src, at, row, w);
 }

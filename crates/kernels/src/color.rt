@@ -3,13 +3,13 @@ ghost use mathlib.Core.Path.{_≡_};
 ghost use Prim.Native.Nat.{_*_, _≤_};
 ghost use lib.ListN.{length};
 ghost use Rattle.pixel.specs.Bytes.{pixelAt, Painted, ValidRow};
-ghost use Rattle.pixel.specs.Matrix.{transformed, saturation, luminance};
+ghost use Rattle.pixel.specs.Matrix.{byMatrix, saturation, luminance};
 ghost use Rattle.pixel.specs.Coefficient.{AllowedArithmetic, AllowedMatrix};
-ghost use Rattle.raster_alpha.specs.Tables.{Unpremultiplies, Weighs};
-ghost use Rattle.raster_arithmetic.specs.Tables.{Combines, combinedAt};
-ghost use Rattle.raster_color.specs.Tables.{Mixes};
+ghost use Rattle.kernel_alpha.specs.Tables.{UnpremultiplyTable, LuminanceTable};
+ghost use Rattle.kernel_arithmetic.specs.Tables.{ArithmeticTable, arithmeticAt};
+ghost use Rattle.kernel_matrix.specs.Tables.{MatrixTable};
 ghost use Rattle.window.specs.Limits.{longestSide};
-ghost use Rattle.kernels.specs.Named.{arithmetic};
+ghost use Rattle.kernels.specs.PlainNumbers.{arithmetic};
 use number::Fixed;
 use pixel::Arithmetic;
 use pixel::Matrix;
@@ -55,9 +55,9 @@ pub extern "C" fn twillgoose_kernel_prepare_arithmetic(
     table: &mut [u8],
 )
     requires { ⌜ (k1 ≤ 16777216) × (k2 ≤ 16777216) × (k3 ≤ 16777216) × (k4 ≤ 16777216) × (length (now table) ≡ 65536) ⌝ }
-    ensures { λ _. ⌜ Combines (arithmetic k1 k2 k3 k4) (now (table .exit)) ⌝ }
+    ensures { λ _. ⌜ ArithmeticTable (arithmetic k1 k2 k3 k4) (now (table .exit)) ⌝ }
 {
-    raster_arithmetic::prepare(arithmetic_of(k1, k2, k3, k4), table);
+    kernel_arithmetic::prepare(arithmetic_of(k1, k2, k3, k4), table);
 }
 
 #[no_mangle]
@@ -72,27 +72,27 @@ pub extern "C" fn twillgoose_kernel_combine_row(
     dst: &mut [u8],
     n: usize,
 )
-    requires { ⌜ (k1 ≤ 16777216) × (k2 ≤ 16777216) × (k3 ≤ 16777216) × (k4 ≤ 16777216) × Combines (arithmetic k1 k2 k3 k4) (now table) ⌝ }
+    requires { ⌜ (k1 ≤ 16777216) × (k2 ≤ 16777216) × (k3 ≤ 16777216) × (k4 ≤ 16777216) × ArithmeticTable (arithmetic k1 k2 k3 k4) (now table) ⌝ }
     requires { ⌜ (length (now a) ≡ 4 * n) × (length (now b) ≡ 4 * n) × (length (now dst) ≡ 4 * n) ⌝ }
-    ensures { λ _. ⌜ Painted (combinedAt (arithmetic k1 k2 k3 k4) (now (a .entry)) (now (b .entry))) 0 0 n (now (dst .entry)) (now (dst .exit)) ⌝ }
+    ensures { λ _. ⌜ Painted (arithmeticAt (arithmetic k1 k2 k3 k4) (now (a .entry)) (now (b .entry))) 0 0 n (now (dst .entry)) (now (dst .exit)) ⌝ }
 {
-    raster_arithmetic::combine_row(arithmetic_of(k1, k2, k3, k4), table, a, b, dst, n);
+    kernel_arithmetic::arithmetic_row(arithmetic_of(k1, k2, k3, k4), table, a, b, dst, n);
 }
 
 #[no_mangle]
 pub extern "C" fn twillgoose_kernel_prepare_unpremultiply(table: &mut [u32])
     requires { ⌜ length (now table) ≡ 512 ⌝ }
-    ensures { λ _. ⌜ Unpremultiplies (now (table .exit)) ⌝ }
+    ensures { λ _. ⌜ UnpremultiplyTable (now (table .exit)) ⌝ }
 {
-    raster_alpha::unpremultiply::prepare(table);
+    kernel_alpha::unpremultiply::prepare(table);
 }
 
 #[no_mangle]
 pub extern "C" fn twillgoose_kernel_prepare_saturate(s: u64, table: &mut [u64])
     requires { ⌜ (s ≤ 65536) × (length (now table) ≡ 4096) ⌝ }
-    ensures { λ _. ⌜ Mixes (saturation s) (now (table .exit)) ⌝ }
+    ensures { λ _. ⌜ MatrixTable (saturation s) (now (table .exit)) ⌝ }
 {
-    raster_color::matrix::prepare(saturation_of(s), table);
+    kernel_matrix::matrix::prepare(saturation_of(s), table);
 }
 
 #[no_mangle]
@@ -104,19 +104,19 @@ pub extern "C" fn twillgoose_kernel_saturate_row(
     dst: &mut [u8],
     n: usize,
 )
-    requires { ⌜ (s ≤ 65536) × Mixes (saturation s) (now table) × Unpremultiplies (now inverse) × ValidRow (now src) n ⌝ }
+    requires { ⌜ (s ≤ 65536) × MatrixTable (saturation s) (now table) × UnpremultiplyTable (now inverse) × ValidRow (now src) n ⌝ }
     requires { ⌜ (n ≤ longestSide) × (length (now src) ≡ 4 * n) × (length (now dst) ≡ 4 * n) ⌝ }
-    ensures { λ _. ⌜ Painted (λ x. transformed (saturation s) (pixelAt (now (src .entry)) (4 * x))) 0 0 n (now (dst .entry)) (now (dst .exit)) ⌝ }
+    ensures { λ _. ⌜ Painted (λ x. byMatrix (saturation s) (pixelAt (now (src .entry)) (4 * x))) 0 0 n (now (dst .entry)) (now (dst .exit)) ⌝ }
 {
-    raster_color::matrix::matrix_row(saturation_of(s), table, inverse, src, dst, n);
+    kernel_matrix::matrix::matrix_row(saturation_of(s), table, inverse, src, dst, n);
 }
 
 #[no_mangle]
 pub extern "C" fn twillgoose_kernel_prepare_luminance(table: &mut [u32])
     requires { ⌜ length (now table) ≡ 768 ⌝ }
-    ensures { λ _. ⌜ Weighs (now (table .exit)) ⌝ }
+    ensures { λ _. ⌜ LuminanceTable (now (table .exit)) ⌝ }
 {
-    raster_alpha::luminance::prepare(table);
+    kernel_alpha::luminance::prepare(table);
 }
 
 #[no_mangle]
@@ -127,8 +127,9 @@ pub extern "C" fn twillgoose_kernel_luminance_row(
     dst: &mut [u8],
     n: usize,
 )
-    requires { ⌜ Weighs (now table) × Unpremultiplies (now inverse) × (length (now src) ≡ 4 * n) × (length (now dst) ≡ 4 * n) × ValidRow (now src) n ⌝ }
-    ensures { λ _. ⌜ Painted (λ x. transformed luminance (pixelAt (now (src .entry)) (4 * x))) 0 0 n (now (dst .entry)) (now (dst .exit)) ⌝ }
+    requires { ⌜ LuminanceTable (now table) × UnpremultiplyTable (now inverse) × (length (now src) ≡ 4 * n) × (length (now dst) ≡ 4 * n)
+        × ValidRow (now src) n ⌝ }
+    ensures { λ _. ⌜ Painted (λ x. byMatrix luminance (pixelAt (now (src .entry)) (4 * x))) 0 0 n (now (dst .entry)) (now (dst .exit)) ⌝ }
 {
-    raster_alpha::luminance::luminance_row(table, inverse, src, dst, n);
+    kernel_alpha::luminance::luminance_row(table, inverse, src, dst, n);
 }

@@ -4,8 +4,8 @@ ghost use Prim.Native.Nat.{_*_};
 ghost use lib.ListN.{length};
 ghost use Rattle.window.specs.Store.{WorkBuffer};
 ghost use Rattle.pixel.specs.Bytes.{Painted, ValidRow};
-ghost use Rattle.raster_composite.specs.Row.{compositedAt};
-ghost use Rattle.kernels.specs.Named.{operatorAt};
+ghost use Rattle.kernel_composite.specs.CompositedRow.{compositedAt};
+ghost use Rattle.kernels.specs.PlainNumbers.{operatorAt};
 use pixel::Operator;
 
 fn operator_at(op: u8) -> Operator
@@ -41,5 +41,5 @@ pub extern "C" fn twillgoose_kernel_composite_row(
     ensures { λ _. ⌜ Painted (compositedAt (operatorAt op) (now (a .entry)) (now (b .entry))) 0 0 n (now (dst .entry)) (now (dst .exit)) ⌝ }
     ensures { λ _. ⌜ WorkBuffer (now (f .entry)) (now (f .exit)) × WorkBuffer (now (g .entry)) (now (g .exit)) ⌝ }
 {
-    raster_composite::composite_row(operator_at(op), a, b, f, g, dst, n);
+    kernel_composite::composite_row(operator_at(op), a, b, f, g, dst, n);
 }

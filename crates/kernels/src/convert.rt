@@ -5,13 +5,13 @@ ghost use lib.ListN.{length};
 ghost use Rattle.pixel.specs.Bytes.{pixelAt, Painted};
 ghost use Rattle.pixel.specs.Remap.{remapped};
 ghost use Rattle.pixel.specs.Space.{spaceMaps};
-ghost use Rattle.raster_space.specs.Pairs.{Pairs};
+ghost use Rattle.kernel_remap.specs.Pairs.{Pairs};
 ghost use Rattle.window.specs.Limits.{longestSide};
-ghost use Rattle.kernels.specs.Named.{spaceOf};
+ghost use Rattle.kernels.specs.PlainNumbers.{spaceTo};
 use pixel::Space;
 
-fn space_of(linear: bool) -> Space
-    ensures { λ r. ⌜ r ≡ spaceOf linear ⌝ }
+fn space_to(linear: bool) -> Space
+    ensures { λ r. ⌜ r ≡ spaceTo linear ⌝ }
 {
     if linear { Space::Linear } else { Space::Srgb }
 }
@@ -19,9 +19,9 @@ fn space_of(linear: bool) -> Space
 #[no_mangle]
 pub extern "C" fn twillgoose_kernel_prepare_convert(linear: bool, table: &mut [u8])
     requires { ⌜ length (now table) ≡ 65536 ⌝ }
-    ensures { λ _. ⌜ Pairs (spaceOf linear) (now (table .exit)) ⌝ }
+    ensures { λ _. ⌜ Pairs (spaceTo linear) (now (table .exit)) ⌝ }
 {
-    raster_space::prepare(space_of(linear), table);
+    kernel_remap::prepare(space_to(linear), table);
 }
 
 #[no_mangle]
@@ -31,8 +31,8 @@ pub extern "C" fn twillgoose_kernel_convert_row(
     n: usize,
     table: &[u8],
 )
-    requires { ⌜ Pairs (spaceOf linear) (now table) × (n ≤ longestSide) × (4 * n ≤ length (now row)) ⌝ }
-    ensures { λ _. ⌜ Painted (λ j. remapped (spaceMaps (spaceOf linear)) (pixelAt (now (row .entry)) (4 * j))) 0 0 n (now (row .entry)) (now (row .exit)) ⌝ }
+    requires { ⌜ Pairs (spaceTo linear) (now table) × (n ≤ longestSide) × (4 * n ≤ length (now row)) ⌝ }
+    ensures { λ _. ⌜ Painted (λ j. remapped (spaceMaps (spaceTo linear)) (pixelAt (now (row .entry)) (4 * j))) 0 0 n (now (row .entry)) (now (row .exit)) ⌝ }
 {
-    raster_space::convert_row(space_of(linear), row, n, table);
+    kernel_remap::convert_row(space_to(linear), row, n, table);
 }

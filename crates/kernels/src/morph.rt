@@ -1,9 +1,9 @@
 // Least and largest of a window of lines.
 ghost use mathlib.Core.Path.{_≡_};
-ghost use Rattle.raster_morph.specs.Extremes.{extremeAt};
-ghost use Rattle.raster_morph.specs.Ranges.{Windowed, PingPong};
-ghost use Rattle.kernels.specs.Named.{extremeOf};
-use raster_fold::Extreme;
+ghost use Rattle.kernel_morph.specs.Extremes.{extremeAt};
+ghost use Rattle.kernel_morph.specs.PingPong.{Windowed, PingPong};
+ghost use Rattle.kernels.specs.PlainNumbers.{extremeOf};
+use kernel_fold::Extreme;
 
 fn extreme_of(largest: bool) -> Extreme
     ensures { λ r. ⌜ r ≡ extremeOf largest ⌝ }
@@ -29,5 +29,5 @@ pub extern "C" fn twillgoose_kernel_extreme_lines(
     requires { ⌜ Windowed a b n count back ahead (now buf) ⌝ }
     ensures { λ r. ⌜ PingPong (extremeAt (extremeOf largest) back ahead (now (buf .entry)) a n count) a b n count r (now (buf .entry)) (now (buf .exit)) ⌝ }
 {
-    raster_morph::extreme_lines(extreme_of(largest), buf, a, b, n, count, back, ahead)
+    kernel_morph::extreme_lines(extreme_of(largest), buf, a, b, n, count, back, ahead)
 }

@@ -1,10 +1,10 @@
 -- Laws of the loops over the steps of a sheet.
-pub mod Regions
+pub mod StepReplacesLayer
 pub mod StepInContext
-pub mod Standing
-pub mod Kept
+pub mod StandingInputs
+pub mod SpacesKept
 pub mod Rendering
 pub mod Redrawing
 pub mod Progress
-pub mod Answered
+pub mod AnswerSoFar
 pub mod DrawLoop

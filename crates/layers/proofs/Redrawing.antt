@@ -19,31 +19,31 @@ use Rattle.filter.specs.Bytes.{size, read, Holds, redrawnOf}
 use Rattle.filter.specs.Checks.{allowed?}
 use Rattle.filter.specs.Earlier.{AgreeBefore}
 use Rattle.filter.specs.Valid.{FloodBytes}
-use Rattle.filter.proofs.Redraws.{redrawn-layer}
+use Rattle.filter.proofs.RedrawIsRender.{redrawn-layer}
 use Rattle.filter.proofs.Validity.{step-valid}
 use Rattle.filter.proofs.ValidLayers.{redrawn-valid}
-use Rattle.stage.specs.Buffers.{stands}
-use Rattle.stage.specs.Stood.{Stood}
-use Rattle.stage.proofs.Agree.{valid-agree}
-use Rattle.stage.proofs.Upto.{Upto, upto-none, upto-more, upto-holds}
+use Rattle.buffers.specs.Buffers.{stands}
+use Rattle.buffers.specs.LayerReplaced.{LayerReplaced}
+use Rattle.buffers.proofs.DrawnAgrees.{valid-agree}
+use Rattle.buffers.proofs.FirstLayers.{FirstLayers, first-layers-none, first-layers-more, first-layers-hold}
 use Rattle.layers.specs.Ready.{Ready, ValidLayers}
 use Rattle.layers.specs.Next.{StepReady}
-use Rattle.layers.proofs.Standing.{upto-agree, result-same, ready-sized}
+use Rattle.layers.proofs.StandingInputs.{first-layers-agree, result-same, ready-sized}
 
 module _ (w h : ℕ) (steps : List Step) (count : ℕ) (r : Rect) (src ws scr : List ℕ) where
   -- what holds after n steps
   pub record Redrawing (n : ℕ) (d s : List ℕ) : Type 0 where
     pub long : length d ≡ length ws
     pub scratch : length s ≡ length scr
-    pub done : Upto w h n (redrawnOf w h steps count r ws src) d
+    pub done : FirstLayers w h n (redrawnOf w h steps count r ws src) d
     pub rest : (k : ℕ) → n ≤ k → read w h d (k * size w h) ≡ read w h ws (k * size w h)
 
   pub redrawing-none : Redrawing 0 ws scr
-  redrawing-none = record { long = refl; scratch = refl; done = upto-none w h _ ws; rest = λ k l. refl }
+  redrawing-none = record { long = refl; scratch = refl; done = first-layers-none w h _ ws; rest = λ k l. refl }
 
   -- after the last step
   pub redrawing-holds : (d s : List ℕ) → length ws ≡ count * size w h → Redrawing count d s → Holds w h count d (redrawnOf w h steps count r ws src)
-  redrawing-holds d s e G = upto-holds w h count _ d (G .long ∙ e) (G .done)
+  redrawing-holds d s e G = first-layers-hold w h count _ d (G .long ∙ e) (G .done)
 
   abbrev effects : ℕ → Effect
   effects = effectsOf w h steps
@@ -60,7 +60,7 @@ module _ (w h : ℕ) (steps : List Step) (count : ℕ) (r : Rect) (src ws scr : 
       (step : Step) (is : step ≡ stepAt steps n) where
     agree : AgreeBefore n (stands w h src d) (after n)
     unfolding redrawn
-    agree = upto-agree w h src after (λ k. patch (damage (canvasOf w h) (effects k) (damages (canvasOf w h) effects r k)) (result (canvasOf w h) (effects k) (after k)) (old k)) refl (λ m. refl) n count (omega arith) d (G .done)
+    agree = first-layers-agree w h src after (λ k. patch (damage (canvasOf w h) (effects k) (damages (canvasOf w h) effects r k)) (result (canvasOf w h) (effects k) (after k)) (old k)) refl (λ m. refl) n count (omega arith) d (G .done)
 
     pub redrawing-ready : ((k : ℕ) → k < count → FloodBytes (stepAt steps k .kind)) → ValidLayers w h count ws → StepReady w h n step src d s
     redrawing-ready floods olds = record {
@@ -73,12 +73,12 @@ module _ (w h : ℕ) (steps : List Step) (count : ℕ) (r : Rect) (src ws scr : 
     }
 
     pub redrawing-more : (spaces : Input → Space) → ((i : Input) → allowed? n i ≡ true → spaces i ≡ spaceOf steps i) → (rect : Rect) → rect ≡ damage (canvasOf w h) (effects n) (damages (canvasOf w h) effects r n) → (d′ s′ : List ℕ)
-        → Stood w h n (patch rect (result (canvasOf w h) (effectOf w h spaces step) (stands w h src d)) (read w h d (n * size w h))) d d′
+        → LayerReplaced w h n (patch rect (result (canvasOf w h) (effectOf w h spaces step) (stands w h src d)) (read w h d (n * size w h))) d d′
         → length s′ ≡ length s → Redrawing (n + 1) d′ s′
     redrawing-more spaces known rect rect-is d′ s′ T e = record {
       long = T .long ∙ G .long;
       scratch = e ∙ G .scratch;
-      done = upto-more w h n _ _ d d′ layer-is (G .done) T;
+      done = first-layers-more w h n _ _ d d′ layer-is (G .done) T;
       rest = λ k m. T .others k (omega arith) ∙ G .rest k (omega arith);
     }
       where

@@ -17,30 +17,30 @@ use Rattle.filter.specs.Bytes.{size, read, Holds, layersOf}
 use Rattle.filter.specs.Checks.{allowed?}
 use Rattle.filter.specs.Earlier.{AgreeBefore}
 use Rattle.filter.specs.Valid.{FloodBytes}
-use Rattle.filter.proofs.Redraws.{rendered-layer}
+use Rattle.filter.proofs.RedrawIsRender.{rendered-layer}
 use Rattle.filter.proofs.Validity.{step-valid}
 use Rattle.filter.proofs.ValidLayers.{rendered-valid}
-use Rattle.stage.specs.Buffers.{stands}
-use Rattle.stage.specs.Stood.{Stood}
-use Rattle.stage.proofs.Agree.{valid-agree}
-use Rattle.stage.proofs.Upto.{Upto, upto-none, upto-more, upto-holds}
+use Rattle.buffers.specs.Buffers.{stands}
+use Rattle.buffers.specs.LayerReplaced.{LayerReplaced}
+use Rattle.buffers.proofs.DrawnAgrees.{valid-agree}
+use Rattle.buffers.proofs.FirstLayers.{FirstLayers, first-layers-none, first-layers-more, first-layers-hold}
 use Rattle.layers.specs.Ready.{Ready}
 use Rattle.layers.specs.Next.{StepReady}
-use Rattle.layers.proofs.Standing.{upto-agree, result-same, ready-sized}
+use Rattle.layers.proofs.StandingInputs.{first-layers-agree, result-same, ready-sized}
 
 module _ (w h : ℕ) (steps : List Step) (count : ℕ) (src ws scr : List ℕ) where
   -- what holds after n steps
   pub record Rendering (n : ℕ) (d s : List ℕ) : Type 0 where
     pub long : length d ≡ length ws
     pub scratch : length s ≡ length scr
-    pub done : Upto w h n (layersOf w h steps count src) d
+    pub done : FirstLayers w h n (layersOf w h steps count src) d
 
   pub rendering-none : Rendering 0 ws scr
-  rendering-none = record { long = refl; scratch = refl; done = upto-none w h _ ws }
+  rendering-none = record { long = refl; scratch = refl; done = first-layers-none w h _ ws }
 
   -- after the last step
   pub rendering-holds : (d s : List ℕ) → length ws ≡ count * size w h → Rendering count d s → Holds w h count d (layersOf w h steps count src)
-  rendering-holds d s e G = upto-holds w h count _ d (G .long ∙ e) (G .done)
+  rendering-holds d s e G = first-layers-hold w h count _ d (G .long ∙ e) (G .done)
 
   abbrev effects : ℕ → Effect
   effects = effectsOf w h steps
@@ -54,7 +54,7 @@ module _ (w h : ℕ) (steps : List Step) (count : ℕ) (src ws scr : List ℕ) w
       (step : Step) (is : step ≡ stepAt steps n) where
     agree : AgreeBefore n (stands w h src d) (after n)
     unfolding rendered
-    agree = upto-agree w h src after (λ k. result (canvasOf w h) (effects k) (after k)) refl (λ m. refl) n count (omega arith) d (G .done)
+    agree = first-layers-agree w h src after (λ k. result (canvasOf w h) (effects k) (after k)) refl (λ m. refl) n count (omega arith) d (G .done)
 
     pub rendering-ready : ((k : ℕ) → k < count → FloodBytes (stepAt steps k .kind)) → StepReady w h n step src d s
     rendering-ready floods = record {
@@ -66,11 +66,11 @@ module _ (w h : ℕ) (steps : List Step) (count : ℕ) (src ws scr : List ℕ) w
       accepted = rw is (R .sheet .each n l);
     }
 
-    pub rendering-more : (spaces : Input → Space) → ((i : Input) → allowed? n i ≡ true → spaces i ≡ spaceOf steps i) → (d′ s′ : List ℕ) → Stood w h n (result (canvasOf w h) (effectOf w h spaces step) (stands w h src d)) d d′ → length s′ ≡ length s → Rendering (n + 1) d′ s′
+    pub rendering-more : (spaces : Input → Space) → ((i : Input) → allowed? n i ≡ true → spaces i ≡ spaceOf steps i) → (d′ s′ : List ℕ) → LayerReplaced w h n (result (canvasOf w h) (effectOf w h spaces step) (stands w h src d)) d d′ → length s′ ≡ length s → Rendering (n + 1) d′ s′
     rendering-more spaces known d′ s′ T e = record {
       long = T .long ∙ G .long;
       scratch = e ∙ G .scratch;
-      done = upto-more w h n _ _ d d′ layer-is (G .done) T;
+      done = first-layers-more w h n _ _ d d′ layer-is (G .done) T;
     }
       where
         layer-is : result (canvasOf w h) (effectOf w h spaces step) (stands w h src d) ≡ layersOf w h steps count src n

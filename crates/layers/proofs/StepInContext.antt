@@ -10,17 +10,17 @@ use Rattle.filter.specs.declared.Resolved.{Resolved}
 use Rattle.filter.specs.declared.Step.{Step}
 use Rattle.filter.specs.Rect.{boundsOf, canvasOf, meet}
 use Rattle.filter.specs.Picture.{patch}
-use Rattle.filter.specs.Layers.{result, reached}
+use Rattle.filter.specs.Layers.{result, reached, damage}
 use Rattle.filter.specs.Kinds.{reads}
 use Rattle.filter.specs.Steps.{resolved}
-use Rattle.filter.specs.Sheets.{effectBy, effectOf, damageOf}
+use Rattle.filter.specs.Sheets.{effectBy, effectOf}
 use Rattle.filter.specs.Bytes.{size, read}
 use Rattle.filter.specs.Accepted.{Within}
-use Rattle.filter.proofs.Joins.{damage-inside}
-use Rattle.stage.specs.declared.Context.{Context}
-use Rattle.stage.specs.Buffers.{stands}
-use Rattle.stage.specs.Shown.{spacesBy}
-use Rattle.stage.specs.Stood.{Stood}
+use Rattle.filter.proofs.JoinedRects.{damage-inside}
+use Rattle.buffers.specs.declared.Context.{Context}
+use Rattle.buffers.specs.Buffers.{stands}
+use Rattle.buffers.specs.Shown.{spacesBy}
+use Rattle.buffers.specs.LayerReplaced.{LayerReplaced}
 use Rattle.layers.specs.InContext.{ContextReady, RectInside, ContextRendered, ContextRedrawn}
 use Rattle.layers.specs.Next.{StepReady}
 
@@ -37,7 +37,7 @@ module _ (c : Context) (w h n : ℕ) (s : Step) (zs : List Bool) (made : Resolve
   }
 
   pub context-rendered : (ws′ : List ℕ) → ContextRendered c made region src ws ws′
-      → Stood w h n (result (canvasOf w h) (effectOf w h (spacesBy zs) s) (stands w h src ws)) ws ws′
+      → LayerReplaced w h n (result (canvasOf w h) (effectOf w h (spacesBy zs) s) (stands w h src ws)) ws ws′
   unfolding effectOf
   context-rendered ws′ T = rw (ew, eh, en, es, el, em, eb) at T
 
@@ -49,10 +49,11 @@ module _ (c : Context) (w h n : ℕ) (s : Step) (zs : List Bool) (made : Resolve
       within = rw (ew, eh) W;
     }
 
-    pub damage-of-step : rect ≡ damageOf w h s z
+    pub damage-of-step : rect ≡ damage (canvasOf w h) (effectOf w h (spacesBy zs) s) z
+    unfolding effectOf
     damage-of-step = rw (eb, em) at ed
 
     pub context-redrawn : (ws′ : List ℕ) → ContextRedrawn c made region rect src ws ws′
-        → Stood w h n (patch (damageOf w h s z) (result (canvasOf w h) (effectOf w h (spacesBy zs) s) (stands w h src ws)) (read w h ws (n * size w h))) ws ws′
+        → LayerReplaced w h n (patch (damage (canvasOf w h) (effectOf w h (spacesBy zs) s) z) (result (canvasOf w h) (effectOf w h (spacesBy zs) s) (stands w h src ws)) (read w h ws (n * size w h))) ws ws′
     unfolding effectOf
     context-redrawn ws′ T = rw (damage-of-step, ew, eh, en, es, el, em, eb) at T

@@ -13,10 +13,10 @@ use Rattle.filter.specs.Sheets.{effectBy}
 use Rattle.filter.specs.Earlier.{Earlier}
 use Rattle.filter.specs.Bytes.{size, read}
 use Rattle.filter.specs.Accepted.{Within, Bounded}
-use Rattle.stage.specs.declared.Context.{Context}
-use Rattle.stage.specs.Buffers.{stands, Sized, ValidInputs}
-use Rattle.stage.specs.Shown.{spacesIn}
-use Rattle.stage.specs.Stood.{Stood}
+use Rattle.buffers.specs.declared.Context.{Context}
+use Rattle.buffers.specs.Buffers.{stands, Sized, ValidInputs}
+use Rattle.buffers.specs.Shown.{spacesIn}
+use Rattle.buffers.specs.LayerReplaced.{LayerReplaced}
 
 -- what a checked step asks
 pub record ContextReady (c : Context) (s : Resolved) (r : Rect) (src ws scr : List ℕ) : Type 0 where
@@ -28,8 +28,8 @@ pub record ContextReady (c : Context) (s : Resolved) (r : Rect) (src ws scr : Li
   pub region : Within (c .w) (c .h) r
 
 -- the step's layer, worked from what stands
-abbrev pub layerOf : Context → Resolved → Rect → List ℕ → List ℕ → Picture
-layerOf c s region src ws =
+abbrev pub layerIn : Context → Resolved → Rect → List ℕ → List ℕ → Picture
+layerIn c s region src ws =
     result (canvasOf (c .w) (c .h)) (effectBy (c .w) (c .h) (spacesIn c) (c .space) s region) (stands (c .w) (c .h) src ws)
 
 -- the rectangle lies in the region and on the canvas
@@ -39,8 +39,8 @@ pub record RectInside (c : Context) (region r : Rect) : Type 0 where
 
 -- a render's step, and a redraw's
 abbrev pub ContextRendered : Context → Resolved → Rect → List ℕ → List ℕ → List ℕ → Type 0
-ContextRendered c s region src ws ws′ = Stood (c .w) (c .h) (c .n) (layerOf c s region src ws) ws ws′
+ContextRendered c s region src ws ws′ = LayerReplaced (c .w) (c .h) (c .n) (layerIn c s region src ws) ws ws′
 
 abbrev pub ContextRedrawn : Context → Resolved → Rect → Rect → List ℕ → List ℕ → List ℕ → Type 0
 ContextRedrawn c s region rect src ws ws′ =
-    Stood (c .w) (c .h) (c .n) (patch rect (layerOf c s region src ws) (read (c .w) (c .h) ws (c .n * size (c .w) (c .h)))) ws ws′
+    LayerReplaced (c .w) (c .h) (c .n) (patch rect (layerIn c s region src ws) (read (c .w) (c .h) ws (c .n * size (c .w) (c .h)))) ws ws′

@@ -1,6 +1,7 @@
 // What a step is drawn in, from its sheet and from what the steps before it left.
 ghost use mathlib.Core.Path.{_≡_};
 ghost use Prim.Native.Nat.{_<_};
+use buffers::Context;
 use damage::SoFar;
 use filter::Input;
 use filter::Sheet;
@@ -9,7 +10,6 @@ use filter::kinds::signature_of;
 use filter::steps::input_at;
 use pixel::Space;
 use pixel::convert::differ;
-use stage::Context;
 
 // A table costs as much as the conversion of so many pixels without one.
 const TABLE_PAYS: usize = 3500;

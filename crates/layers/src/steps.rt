@@ -6,6 +6,7 @@ ghost use Rattle.filter.specs.Answers.{accepted?};
 ghost use Rattle.layers.specs.InContext.{ContextReady, RectInside, ContextRendered, ContextRedrawn};
 ghost use Rattle.layers.specs.Next.{StepReady, RectsReady, NextReady, Rendered, Redrawn, NextDrawn, ScratchAfter};
 use super::contexts::context_for;
+use buffers::Context;
 use checks::answers::is_accepted;
 use damage::SoFar;
 use damage::damage::damage_of;
@@ -23,7 +24,6 @@ use filter::Region;
 use filter::Resolved;
 use filter::Sheet;
 use filter::Step;
-use stage::Context;
 
 // A full render's step: its region is drawn, and its layer is transparent black around it.
 pub fn render_step(
@@ -83,7 +83,7 @@ fn render_next(
 // Its rectangle is worked out from those so far, and joins them.
 fn redraw_next(
     sheet: Sheet,
-    named: Region,
+    changed: Region,
     n: usize,
     step: Step,
     before: SoFar,
@@ -92,8 +92,8 @@ fn redraw_next(
     scratch: &mut [u8],
 ) -> SoFar
     requires { ⌜ StepReady (sheet .width) (sheet .height) n step (now source) (now workspace) (now scratch) ⌝ }
-    requires { ⌜ RectsReady (sheet .width) (sheet .height) n named before ⌝ }
-    ensures { λ o. ⌜ Redrawn (sheet .width) (sheet .height) n named step (now (source .entry)) (now (workspace .entry)) (now (workspace .exit)) before o ⌝ }
+    requires { ⌜ RectsReady (sheet .width) (sheet .height) n changed before ⌝ }
+    ensures { λ o. ⌜ Redrawn (sheet .width) (sheet .height) n changed step (now (source .entry)) (now (workspace .entry)) (now (workspace .exit)) before o ⌝ }
     ensures { λ _. ⌜ WorkBuffer (now (scratch .entry)) (now (scratch .exit)) ⌝ }
 {
     let space = step.space;
@@ -106,7 +106,7 @@ fn redraw_next(
         sheet.height,
         shape,
         region,
-        bounds(named),
+        bounds(changed),
         rects,
     );
     let context = context_for(sheet, n, step, before, area(rect));
@@ -135,9 +135,9 @@ pub fn draw_next(
     }
     match call {
         Call::Render => render_next(sheet, n, step, before, source, workspace, scratch),
-        Call::Redraw(named) => redraw_next(
+        Call::Redraw(changed) => redraw_next(
             sheet,
-            named,
+            changed,
             n,
             step,
             before,

@@ -1,3 +1,3 @@
 -- Laws that the proof of the walk cites.
-pub mod Kept
-pub mod Counted
+pub mod LinePromises
+pub mod AllStepsCount

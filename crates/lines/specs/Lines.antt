@@ -14,7 +14,7 @@ use Rattle.text.specs.declared.Form.{Form}
 use Rattle.text.specs.declared.Reading as R
 use Rattle.text.specs.Reading.{readingOf, stepsIn}
 use Rattle.layers.specs.Given.{Given, giving, Slice}
-use Rattle.render.specs.Promise.{answered, worked, ifDrawn, RedrawsFor, ValidFor}
+use Rattle.render.specs.Promise.{answered, pixelsWorked, ifDrawn, RedrawsFor, ValidFor}
 
 -- what the reader says of a text, for a list as long as a sheet may be
 abbrev pub readingIn : Form → List ℕ → R.Reading
@@ -58,7 +58,7 @@ abbrev pub answerIn : GivenText → Answer
 answerIn t = answered (givenBy t)
 
 abbrev pub workedIn : Answer → GivenText → ℕ
-workedIn a t = worked a (t .call) (sheetIn (t .form) (t .text) (t .width) (t .height)) (listIn (t .form) (t .text))
+workedIn a t = pixelsWorked a (t .call) (sheetIn (t .form) (t .text) (t .width) (t .height)) (listIn (t .form) (t .text))
 
 abbrev pub layersIn : Answer → GivenText → List ℕ
 layersIn a t = ifDrawn a (givenBy t)

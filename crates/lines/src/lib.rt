@@ -3,7 +3,7 @@ use filter::Answer;
 use filter::Call;
 use filter::Sheet;
 use lent::blanks;
-use render::Redrawn;
+use render::Outcome;
 use render::draw;
 use text::Form;
 use text::ReadAnswer;
@@ -14,7 +14,7 @@ ghost use Rattle.render.specs.Promise.{ifAccepted, zeros};
 ghost use Rattle.lines.specs.Lines.{readingIn, givenText, answerIn, workedIn, layersIn, RedrawsIn, ValidIn};
 
 // What the reader says, the sheet's answer, and how many pixels a redraw worked. A refused text is a sheet of no steps, which is refused.
-pub struct Drawn {
+pub struct LinesDrawn {
     pub reading: ReadAnswer,
     pub answer: Answer,
     pub count: usize,
@@ -31,12 +31,12 @@ fn sheet_of(reading: Reading, width: usize, height: usize) -> Sheet
     }
 }
 
-fn told(reading: Reading, redrawn: Redrawn) -> Drawn
+fn told(reading: Reading, redrawn: Outcome) -> LinesDrawn
     ensures { λ o. ⌜ o ≡ record { reading = reading .answer; answer = redrawn .answer; count = redrawn .count } ⌝ }
 {
     let read = reading.answer;
     let answer = redrawn.answer;
-    Drawn {
+    LinesDrawn {
         reading: read,
         answer,
         count: redrawn.count,
@@ -52,7 +52,7 @@ pub fn draw_lines(
     source: &[u8],
     workspace: &mut [u8],
     scratch: &mut [u8],
-) -> Drawn
+) -> LinesDrawn
     ensures reads { λ d. ⌜ d .reading ≡ readingIn form (now (text .entry)) .answer ⌝ }
     ensures answers { λ d. ⌜ d .answer ≡ answerIn (givenText form text call width height source workspace scratch) ⌝ }
     ensures counts { λ d. ⌜ d .count ≡ workedIn (d .answer) (givenText form text call width height source workspace scratch) ⌝ }

@@ -14,7 +14,7 @@ use Rattle.pixel.specs.Remap.{remapped}
 use Rattle.pixel.specs.Space.{tableOf, spaceMaps}
 use Rattle.pixel.specs.Convert.{differ?, pairOf, converted}
 use Rattle.pixel.proofs.Remapped.{remapped-valid, remapped-bytes}
-use Rattle.pixel.proofs.Spaces.{space-bytes, table-zero, table-past}
+use Rattle.pixel.proofs.SpaceTables.{space-bytes, table-zero, table-past}
 
 pub converted-valid : (s t : S.Space) (p : Pixel) → Valid p → Valid (converted s t p)
 unfolding converted

@@ -11,7 +11,7 @@ use Rattle.filter.specs.declared.Input.the-variants.{Source, SourceAlpha, Layer
 use Rattle.filter.specs.declared.Rect.{Rect}
 use Rattle.filter.specs.Rect.{empty}
 use Rattle.filter.specs.Accepted.{Within}
-use Rattle.damage.specs.Damage.{rectOf, AllWithin}
+use Rattle.damage.specs.InputRects.{rectOf, AllWithin}
 
 empty-at : (n k : ℕ) → getD (replicate n empty) k empty ≡ empty
 empty-at zero k = refl

@@ -8,7 +8,7 @@ ghost use Rattle.filter.specs.Accepted.{Within};
 ghost use Rattle.filter.specs.Bytes.{size};
 ghost use Rattle.filter.specs.Checks.{sizesAnswer};
 ghost use Rattle.filter.specs.Limits.{longestSide, mostPixels, mostSteps};
-ghost use Rattle.damage.specs.Damage.{AllWithin};
+ghost use Rattle.damage.specs.InputRects.{AllWithin};
 use damage::SoFar;
 use filter::Answer;
 use filter::Rect;
@@ -111,10 +111,10 @@ fn check_canvas(w: usize, h: usize, count: usize) -> Answer
 }
 
 // The rectangles with that of step n, where the step is not refused.
-fn next_damages(w: usize, h: usize, n: usize, step: Step, named: Rect, damages: SoFar) -> SoFar
+fn next_damages(w: usize, h: usize, n: usize, step: Step, changed: Rect, damages: SoFar) -> SoFar
     requires { ⌜ (n < mostSteps) × (w ≤ longestSide) × (h ≤ longestSide) × (damages .count ≤ n * mostPixels) ⌝ }
-    requires { ⌜ (length (damages .rects) ≡ mostSteps) × AllWithin longestSide longestSide named (damages .rects) ⌝ }
-    ensures { λ o. ⌜ (o .count ≤ (n + 1) * mostPixels) × (length (o .rects) ≡ mostSteps) × AllWithin longestSide longestSide named (o .rects) ⌝ }
+    requires { ⌜ (length (damages .rects) ≡ mostSteps) × AllWithin longestSide longestSide changed (damages .rects) ⌝ }
+    ensures { λ o. ⌜ (o .count ≤ (n + 1) * mostPixels) × (length (o .rects) ≡ mostSteps) × AllWithin longestSide longestSide changed (o .rects) ⌝ }
 {
     if !checks::answers::is_accepted(checks::checks::check_step(w, h, n, step)) {
         return damages;
@@ -123,13 +123,13 @@ fn next_damages(w: usize, h: usize, n: usize, step: Step, named: Rect, damages: 
     let made = damage::resolve::resolve(step);
     let shape = made.shape;
     let region = damage::rectangle::bounds(step.region);
-    let rect = damage::damage::damage_of(w, h, shape, region, named, rects);
+    let rect = damage::damage::damage_of(w, h, shape, region, changed, rects);
     damage::progress::with_rect(damages, n, rect)
 }
 
 // The steps of the lines, one after another: their checks, then their rectangles.
-fn print_steps(w: usize, h: usize, named: Rect, lines: &[u8], count: usize)
-    requires { ⌜ (w ≤ longestSide) × (h ≤ longestSide) × (count ≤ mostSteps) × Within longestSide longestSide named ⌝ }
+fn print_steps(w: usize, h: usize, changed: Rect, lines: &[u8], count: usize)
+    requires { ⌜ (w ≤ longestSide) × (h ≤ longestSide) × (count ≤ mostSteps) × Within longestSide longestSide changed ⌝ }
 {
     let mut answer = Answer::Done;
     let mut damages = damage::progress::none_so_far();
@@ -142,7 +142,7 @@ fn print_steps(w: usize, h: usize, named: Rect, lines: &[u8], count: usize)
         let s = text_step::step_lines::step_of(&lines[at..e]);
         let step = s.step;
         answer = checks::checks::check_next(answer, w, h, n, step);
-        damages = next_damages(w, h, n, step, named, damages);
+        damages = next_damages(w, h, n, step, changed, damages);
         at = text::reader::line_after(lines, at);
     }
     print_answer(answer);
@@ -151,17 +151,17 @@ fn print_steps(w: usize, h: usize, named: Rect, lines: &[u8], count: usize)
     }
 }
 
-fn print_plan(w: usize, h: usize, named: Region, lines: &[u8], count: usize)
+fn print_plan(w: usize, h: usize, changed: Region, lines: &[u8], count: usize)
     requires { ⌜ (w < 65536) × (h < 65536) ⌝ }
 {
     if Sheet::STEPS < count {
         return;
     }
     let a = check_canvas(w, h, count);
-    let b = checks::sizes::check_rectangle(w, h, named);
+    let b = checks::sizes::check_rectangle(w, h, changed);
     let early = checks::answers::first(a, b);
     if checks::answers::is_accepted(early) {
-        print_steps(w, h, damage::rectangle::bounds(named), lines, count);
+        print_steps(w, h, damage::rectangle::bounds(changed), lines, count);
     } else {
         print_answer(early);
     }
@@ -170,7 +170,7 @@ fn print_plan(w: usize, h: usize, named: Region, lines: &[u8], count: usize)
 fn print_plan_case(head: &[u8], lines: &[u8])
     requires { ⌜ length (now head) ≡ 29 ⌝ }
 {
-    let named = Region {
+    let changed = Region {
         x: side(head, 2),
         y: side(head, 3),
         width: side(head, 4),
@@ -179,7 +179,7 @@ fn print_plan_case(head: &[u8], lines: &[u8])
     let reading = scan(Form::Lines, lines, Sheet::STEPS);
     let answer = reading.answer;
     match answer {
-        ReadAnswer::Done => print_plan(side(head, 0), side(head, 1), named, lines, reading.count),
+        ReadAnswer::Done => print_plan(side(head, 0), side(head, 1), changed, lines, reading.count),
         ReadAnswer::Line(n) => print_refusal(b" 15", n),
         ReadAnswer::Records => print_refusal(b" 21", 0),
     }

@@ -1,5 +1,5 @@
 -- Why the entry points keep their promises.
-pub mod Verdicts
-pub mod Passed
-pub mod Kept
-pub mod Places
+pub mod RefusalOrder
+pub mod AcceptedIsReady
+pub mod PromisesKept
+pub mod LayerViews

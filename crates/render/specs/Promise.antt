@@ -17,7 +17,7 @@ use Rattle.filter.specs.Rect.{In, boundsOf, canvasOf}
 use Rattle.filter.specs.Sheets.{effectsOf}
 use Rattle.filter.specs.Layers.{damages, count}
 use Rattle.filter.specs.Bytes.{size, bytesOf, layersOf, redrawnOf}
-use Rattle.filter.specs.Change.{SameOutside}
+use Rattle.filter.specs.SameOutside.{SameOutside}
 use Rattle.filter.specs.Answers.{numberOf, placeOf, accepted?}
 use Rattle.filter.specs.Checks.{answerOf}
 use Rattle.layers.specs.Given.{Given}
@@ -39,8 +39,8 @@ abbrev pub zeros : List ℕ → List ℕ
 zeros d = replicate (length d) 0
 
 -- "The count is the sum of the areas", and "0 when refused"
-abbrev pub countOf : Answer → ℕ → ℕ → List Step → ℕ → Region → ℕ
-countOf a w h steps n g = cond (accepted? a) (count (canvasOf w h) (effectsOf w h steps) (boundsOf g) n) 0
+abbrev pub redrawCount : Answer → ℕ → ℕ → List Step → ℕ → Region → ℕ
+redrawCount a w h steps n g = cond (accepted? a) (count (canvasOf w h) (effectsOf w h steps) (boundsOf g) n) 0
 
 -- demand 3, of the workspace before and after an accepted redraw
 pub record Redraws (w h : ℕ) (steps : List Step) (n : ℕ) (g : Region) (src before after : List ℕ) : Type 0 where
@@ -80,9 +80,9 @@ abbrev pub ifDrawn : Answer → Given → List ℕ
 ifDrawn a g = ifAccepted a (drawnBytes (g .call) (g .sheet) (g .steps) (g .source) (g .workspace)) (g .workspace)
 
 -- the pixels worked: those of a redraw; a full render has no count
-unfoldable pub worked : Answer → Call → Sheet → List Step → ℕ
-worked a C.Render s steps = 0
-worked a (C.Redraw g) s steps = countOf a (s .width) (s .height) steps (taken s steps) g
+unfoldable pub pixelsWorked : Answer → Call → Sheet → List Step → ℕ
+pixelsWorked a C.Render s steps = 0
+pixelsWorked a (C.Redraw g) s steps = redrawCount a (s .width) (s .height) steps (taken s steps) g
 
 -- demand 3, where the call is an accepted redraw
 abbrev pub RedrawsFor : Answer → Given → List ℕ → Type 0

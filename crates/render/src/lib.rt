@@ -17,10 +17,10 @@ use window::lesser;
 ghost use mathlib.Core.Path.{_≡_};
 ghost use Rattle.filter.specs.Answers.{numberOf, placeOf};
 ghost use Rattle.layers.specs.Given.{given};
-ghost use Rattle.render.specs.Promise.{answered, asNumber, asPlace, ifAccepted, worked, ifDrawn, zeros, RedrawsFor, ValidFor};
+ghost use Rattle.render.specs.Promise.{answered, asNumber, asPlace, ifAccepted, pixelsWorked, ifDrawn, zeros, RedrawsFor, ValidFor};
 
 // The answer to a call, and how many pixels a redraw worked.
-pub struct Redrawn {
+pub struct Outcome {
     pub answer: Answer,
     pub count: usize,
 }
@@ -32,7 +32,7 @@ pub struct View {
 }
 
 // A sheet drawn on the picture in `source`: every layer, or the layers in `workspace` brought up to date with a source that has changed
-// inside the named rectangle only. The sheet's steps are the first of the list; those past its count do not count.
+// inside the changed rectangle only. The sheet's steps are the first of the list; those past its count do not count.
 pub fn draw(
     call: Call,
     sheet: Sheet,
@@ -40,11 +40,11 @@ pub fn draw(
     source: &[u8],
     workspace: &mut [u8],
     scratch: &mut [u8],
-) -> Redrawn
+) -> Outcome
     ensures answers { λ r. ⌜ r .answer ≡ answered (given call sheet steps source workspace scratch) ⌝ }
     ensures number { λ r. ⌜ numberOf (r .answer) ≡ asNumber (given call sheet steps source workspace scratch) ⌝ }
     ensures place { λ r. ⌜ placeOf (r .answer) ≡ asPlace (given call sheet steps source workspace scratch) ⌝ }
-    ensures counts { λ r. ⌜ r .count ≡ worked (r .answer) call sheet (now (steps .entry)) ⌝ }
+    ensures counts { λ r. ⌜ r .count ≡ pixelsWorked (r .answer) call sheet (now (steps .entry)) ⌝ }
     ensures layers { λ r. ⌜ now (workspace .exit) ≡ ifDrawn (r .answer) (given call sheet steps source workspace scratch) ⌝ }
     ensures cleared { λ r. ⌜ now (scratch .exit) ≡ ifAccepted (r .answer) (zeros (now (scratch .entry))) (now (scratch .entry)) ⌝ }
     ensures redraws { λ r. ⌜ RedrawsFor (r .answer) (given call sheet steps source workspace scratch) (now (workspace .exit)) ⌝ }

@@ -1,5 +1,5 @@
 // All checks of a call, in the order of RULES 7.3, before the first store; and what comes after the last one.
-use super::Redrawn;
+use super::Outcome;
 use checks::answers::first;
 use checks::answers::is_accepted;
 use checks::sizes::check_rectangle;
@@ -8,7 +8,7 @@ use damage::SoFar;
 use filter::Answer;
 use filter::Call;
 use filter::Sheet;
-use raster::scan::first_invalid;
+use kernel_row::scan::first_invalid;
 ghost use mathlib.Core.Path.{_≡_};
 ghost use Prim.Native.Nat.{_*_, _≤_};
 ghost use lib.ListN.{length};
@@ -61,12 +61,12 @@ fn check_contents(
 }
 
 // 6: redraw only.
-fn check_named(width: usize, height: usize, call: Call) -> Answer
+fn check_changed(width: usize, height: usize, call: Call) -> Answer
     ensures { λ a. ⌜ a ≡ rectangleAnswer width height call ⌝ }
 {
     match call {
         Call::Render => Answer::Done,
-        Call::Redraw(named) => check_rectangle(width, height, named),
+        Call::Redraw(changed) => check_rectangle(width, height, changed),
     }
 }
 
@@ -118,7 +118,7 @@ pub fn settle(
     if !is_accepted(sizes) {
         return sizes;
     }
-    let early = first(check_named(width, height, call), checked);
+    let early = first(check_changed(width, height, call), checked);
     if !is_accepted(early) {
         return early;
     }
@@ -126,14 +126,14 @@ pub fn settle(
 }
 
 // After the work: "all zero after an accepted call".
-pub fn finish(answer: Answer, damages: SoFar, scratch: &mut [u8]) -> Redrawn
+pub fn finish(answer: Answer, damages: SoFar, scratch: &mut [u8]) -> Outcome
     ensures { λ r. ⌜ r ≡ record { answer = answer; count = damages .count } ⌝ }
     ensures { λ _. ⌜ now (scratch .exit) ≡ ifAccepted answer (zeros (now (scratch .entry))) (now (scratch .entry)) ⌝ }
 {
     let count = damages.count;
     if is_accepted(answer) {
-        raster::row::clear(scratch);
-        return Redrawn { answer, count };
+        kernel_row::row::clear(scratch);
+        return Outcome { answer, count };
     }
-    Redrawn { answer, count }
+    Outcome { answer, count }
 }

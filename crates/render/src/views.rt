@@ -9,7 +9,7 @@ ghost use lib.ListN.{length};
 ghost use Rattle.render.specs.View.{viewAt, pointer, partAt};
 
 // Where layer n lies in a workspace of `long` bytes; an empty part at its start where there is no such layer.
-pub fn place(width: usize, height: usize, steps: usize, n: usize, long: usize) -> View
+pub fn view_at(width: usize, height: usize, steps: usize, n: usize, long: usize) -> View
     ensures { λ v. ⌜ (v ≡ viewAt width height steps n long) × (v .offset + v .bytes ≤ long) ⌝ }
 {
     if !is_canvas(width, height) {
@@ -48,7 +48,7 @@ pub fn layer(width: usize, height: usize, steps: usize, n: usize, workspace: &[u
     ensures placed { λ r. ⌜ r .ptr ≡ pointer (viewAt width height steps n (length (now (workspace .entry)))) (workspace .entry .ptr) ⌝ }
     ensures shown { λ r. ⌜ now r ≡ partAt (viewAt width height steps n (length (now (workspace .entry)))) (now (workspace .entry)) ⌝ }
 {
-    let v = place(width, height, steps, n, workspace.len());
+    let v = view_at(width, height, steps, n, workspace.len());
     let a = v.offset;
     let e = a + v.bytes;
     &workspace[a..e]

@@ -1,3 +1,3 @@
 -- Laws of the numbers in hex, and of what a buffer holds.
-pub mod Digits
-pub mod Totals
+pub mod HexDigits
+pub mod SumsAndZeros

@@ -10,15 +10,15 @@ use borrow.Author.Tests.{ltb-true, ltb-false, lt-ltb, le-ltb, eqb-true, eq-eqb}
 use Rattle.text_field.specs.Words.{bytes}
 use Rattle.text_field.specs.Field.{same}
 use Rattle.text_field.specs.Split.{split}
-use Rattle.text_step.specs.Kinds.{firstNamed, named, kindOf}
+use Rattle.text_step.specs.Kinds.{firstKind, kindIf, kindOf}
 use Rattle.text_step.specs.StepLine.{stepOf}
-use Rattle.text.specs.Document.{canvasOf}
+use Rattle.text.specs.Document.{canvasIn}
 use Rattle.text.specs.Lines.{linesOf}
 use Rattle.text.specs.Texts.{current, earlier, Draft, Text, refused, accepted, completed, withStep, withRow, step?, row?, line?, after, draftLines, blankDraft, textLines, textOf, stepLinesOf}
 use Rattle.text.specs.Reading.{textIn, earlierLine, earlierPlace}
 use Rattle.text.specs.declared.Form.{Form}
 use Rattle.text.specs.declared.Form.the-variants as F
-use Rattle.text.proofs.Drafts.{and-false, step-is, step-none, line-is, line-row, after-step, after-row, frozen}
+use Rattle.text.proofs.DocumentIsDraft.{and-false, step-is, step-none, line-is, line-row, after-step, after-row, frozen}
 
 abbrev rowWord : List ℕ
 rowWord = bytes "row"
@@ -36,7 +36,7 @@ same-is (x ∷ f) (y ∷ g) h = go (eqb x y) refl (λ q. same-is f g q) h
 
 -- a line that is a step's is no row
 row-no-step : (fs : List (List ℕ)) → getD fs 0 [] ≡ rowWord → stepOf fs .good ≡ false
-unfolding stepOf kindOf firstNamed named same
+unfolding stepOf kindOf firstKind kindIf same
 row-no-step fs e = rw e
 
 step-no-row : (d : Draft) (fs : List (List ℕ)) → stepOf fs .good ≡ true → row? d fs ≡ false
@@ -83,11 +83,11 @@ text-same : (ls : List (List ℕ)) → textLines earlier ls .good ≡ true → t
 unfolding textLines
 text-same [] h = refl
 text-same (l ∷ []) h = refl
-text-same (l ∷ m ∷ ls) h = go (canvasOf (split 9 l) .good) h
+text-same (l ∷ m ∷ ls) h = go (canvasIn (split 9 l) .good) h
   where
-    go : (b : Bool) → cond b (draftLines earlier (blankDraft (canvasOf (split 9 l) .width) (canvasOf (split 9 l) .height)) 2 (m ∷ ls)) (refused 1) .good ≡ true
-        → cond b (draftLines current (blankDraft (canvasOf (split 9 l) .width) (canvasOf (split 9 l) .height)) 2 (m ∷ ls)) (refused 1)
-        ≡ cond b (draftLines earlier (blankDraft (canvasOf (split 9 l) .width) (canvasOf (split 9 l) .height)) 2 (m ∷ ls)) (refused 1)
+    go : (b : Bool) → cond b (draftLines earlier (blankDraft (canvasIn (split 9 l) .width) (canvasIn (split 9 l) .height)) 2 (m ∷ ls)) (refused 1) .good ≡ true
+        → cond b (draftLines current (blankDraft (canvasIn (split 9 l) .width) (canvasIn (split 9 l) .height)) 2 (m ∷ ls)) (refused 1)
+        ≡ cond b (draftLines earlier (blankDraft (canvasIn (split 9 l) .width) (canvasIn (split 9 l) .height)) 2 (m ∷ ls)) (refused 1)
     go true q = lines-same (line? earlier) (line? current) (after earlier) (after current) completed agree _ 2 (m ∷ ls) q
     go false q = refl
 
@@ -157,12 +157,12 @@ text-stops : (ls : List (List ℕ)) → textLines current ls .good ≡ true → 
 unfolding textLines
 text-stops [] h k = absurd (let z : _≡_ {A = ℕ} 0 1 = cc in omega arith)
 text-stops (l ∷ []) h k = absurd (let z : _≡_ {A = ℕ} 0 1 = cc in omega arith)
-text-stops (l ∷ m ∷ ls) h k = go (canvasOf (split 9 l) .good) h k
+text-stops (l ∷ m ∷ ls) h k = go (canvasIn (split 9 l) .good) h k
   where
-    go : (b : Bool) → cond b (draftLines current (blankDraft (canvasOf (split 9 l) .width) (canvasOf (split 9 l) .height)) 2 (m ∷ ls)) (refused 1) .good ≡ true
-        → earlier .steps < length (cond b (draftLines current (blankDraft (canvasOf (split 9 l) .width) (canvasOf (split 9 l) .height)) 2 (m ∷ ls)) (refused 1) .steps)
-        → cond b (draftLines earlier (blankDraft (canvasOf (split 9 l) .width) (canvasOf (split 9 l) .height)) 2 (m ∷ ls)) (refused 1) ≡ refused (earlierLine F.Sheet)
-    go true q t = stops (blankDraft (canvasOf (split 9 l) .width) (canvasOf (split 9 l) .height)) 2 (m ∷ ls) refl (omega arith) q t
+    go : (b : Bool) → cond b (draftLines current (blankDraft (canvasIn (split 9 l) .width) (canvasIn (split 9 l) .height)) 2 (m ∷ ls)) (refused 1) .good ≡ true
+        → earlier .steps < length (cond b (draftLines current (blankDraft (canvasIn (split 9 l) .width) (canvasIn (split 9 l) .height)) 2 (m ∷ ls)) (refused 1) .steps)
+        → cond b (draftLines earlier (blankDraft (canvasIn (split 9 l) .width) (canvasIn (split 9 l) .height)) 2 (m ∷ ls)) (refused 1) ≡ refused (earlierLine F.Sheet)
+    go true q t = stops (blankDraft (canvasIn (split 9 l) .width) (canvasIn (split 9 l) .height)) 2 (m ∷ ls) refl (omega arith) q t
     go false q t = absurd (let z : _≡_ {A = ℕ} 0 1 = cc in omega arith)
 
 sheet-stops : (s : List ℕ) → textOf current s .good ≡ true → earlier .steps < length (textOf current s .steps) → textOf earlier s ≡ refused (earlierPlace F.Sheet s)

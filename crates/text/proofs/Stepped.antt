@@ -15,19 +15,19 @@ use Rattle.filter.specs.declared.Step.{Step}
 use Rattle.filter.specs.Steps.{blankStep}
 use Rattle.filter.specs.Limits.{longestText}
 use Rattle.text_field.specs.Split.{split, indexOf}
-use Rattle.text_field.proofs.Pieces.{index-le, piece-more, piece-last, piece-first}
+use Rattle.text_field.proofs.SplitByIndex.{index-le, piece-more, piece-last, piece-first}
 use Rattle.text_step.specs.StepLine.{stepOf}
-use Rattle.text.specs.Document.{canvasOf}
+use Rattle.text.specs.Document.{canvasIn}
 use Rattle.text.specs.Lines.{linesOf}
 use Rattle.text.specs.Texts.{Limits, current, Draft, Text, refused, accepted, blankDraft, withStep, withRow, step?, row?, line?, after, draftLines, textOf, stepLinesOf}
 use Rattle.text.specs.Reading.{textIn, stepsIn, lineAfter, lineAt, firstLine, refusal, allRead, readingOf}
 use Rattle.text.specs.declared.Form.{Form}
 use Rattle.text.specs.declared.Form.the-variants as F
-use Rattle.text.specs.declared.Canvas.{Canvas}
+use Rattle.text.specs.declared.CanvasLine.{CanvasLine}
 use Rattle.text.specs.declared.Reading.{Reading}
 use Rattle.text.specs.declared.ReadAnswer.the-variants.{Line, Records}
-use Rattle.text.proofs.Drafts.{line-is, after-step, after-row, frozen}
-use Rattle.text.proofs.Scanned.{text-one, text-first}
+use Rattle.text.proofs.DocumentIsDraft.{line-is, after-step, after-row, frozen}
+use Rattle.text.proofs.LinesScanned.{text-one, text-first}
 
 abbrev stepIn : List ℕ → Step
 stepIn l = stepOf (split 9 l) .step
@@ -110,8 +110,8 @@ module _ (s : List ℕ) where
   abbrev end : ℕ
   end = 0 + indexOf 10 (drop 0 s)
 
-  abbrev canvas : Canvas
-  canvas = canvasOf (split 9 (take (end - 0) (drop 0 s)))
+  abbrev canvas : CanvasLine
+  canvas = canvasIn (split 9 (take (end - 0) (drop 0 s)))
 
   abbrev rest : Text
   rest = draftLines current (blankDraft (canvas .width) (canvas .height)) 2 (split 10 (drop (end + 1) s))

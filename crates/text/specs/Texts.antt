@@ -9,9 +9,9 @@ use Rattle.filter.specs.Limits.{mostSteps, longestText, textPicture}
 use Rattle.text_field.specs.Words.{bytes}
 use Rattle.text_field.specs.Field.{same}
 use Rattle.text_field.specs.Split.{split}
-use Rattle.text_step.specs.Many.{all}
+use Rattle.text_step.specs.ManyFields.{allFields}
 use Rattle.text_step.specs.StepLine.{stepOf}
-use Rattle.text.specs.Document.{pixel?, pixelsOf, canvasOf}
+use Rattle.text.specs.Document.{pixel?, storedPixels, canvasIn}
 use Rattle.text.specs.Lines.{linesOf}
 
 -- how many steps a reader takes, and how many bytes of a file
@@ -66,7 +66,7 @@ withRow d fs = record {
   height = d .height;
   rows = d .rows + 1;
   steps = d .steps;
-  pixels = pixelsOf (d .pixels) (4 * (d .rows * d .width)) (drop 1 fs) .pixels;
+  pixels = storedPixels (d .pixels) (4 * (d .rows * d .width)) (drop 1 fs) .pixels;
 }
 
 -- a step before the first row: "up to 64 steps"
@@ -75,7 +75,7 @@ step? lim d fs = eqb (d .rows) 0 && (ltb (length (d .steps)) (lim .steps) && ste
 
 -- "exactly H lines `row`, each with W pixels"
 unfoldable pub row? : Draft → List (List ℕ) → Bool
-row? d fs = ltb (d .rows) (d .height) && (same (getD fs 0 []) (bytes "row") && (eqb (length fs) (1 + d .width) && all pixel? (drop 1 fs)))
+row? d fs = ltb (d .rows) (d .height) && (same (getD fs 0 []) (bytes "row") && (eqb (length fs) (1 + d .width) && allFields pixel? (drop 1 fs)))
 
 unfoldable pub line? : Limits → Draft → List (List ℕ) → Bool
 line? lim d fs = step? lim d fs || row? d fs
@@ -92,7 +92,7 @@ unfoldable pub textLines : Limits → List (List ℕ) → Text
 textLines lim [] = refused 1
 textLines lim (l ∷ []) = refused 1
 textLines lim (l ∷ m ∷ ls) =
-    cond (canvasOf (split 9 l) .good) (draftLines lim (blankDraft (canvasOf (split 9 l) .width) (canvasOf (split 9 l) .height)) 2 (m ∷ ls)) (refused 1)
+    cond (canvasIn (split 9 l) .good) (draftLines lim (blankDraft (canvasIn (split 9 l) .width) (canvasIn (split 9 l) .height)) 2 (m ∷ ls)) (refused 1)
 
 -- "a file over 65,536 bytes, before all else, at place 0"
 unfoldable pub textOf : Limits → List ℕ → Text

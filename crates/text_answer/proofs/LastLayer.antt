@@ -6,15 +6,15 @@ use native.Mathlib.Omega.{arith}
 use native.Mathlib.Nat.{add-mul}
 use lib.ListN.{length, take, drop, length-drop}
 use lib.Seq.{length-take-le}
-use Rattle.pixel.proofs.Painting.{pixel-part}
+use Rattle.pixel.proofs.PaintedRows.{pixel-part}
 use Rattle.filter.specs.declared.Step.{Step}
 use Rattle.filter.specs.Rect.{In, canvasOf}
 use Rattle.filter.specs.Bytes.{size, read, bytesOf, layersOf}
-use Rattle.filter.proofs.Rects.{in?}
-use Rattle.filter.proofs.Contents.{read-pixel, read-blank, holds-read}
-use Rattle.filter.proofs.Concat.{bytes-hold}
-use Rattle.filter.proofs.Demand.{layer-blank}
-use Rattle.text_print.proofs.Fields.{row-end}
+use Rattle.filter.proofs.PlacesInRects.{in?}
+use Rattle.filter.proofs.ReadPictures.{read-pixel, read-blank, holds-read}
+use Rattle.filter.proofs.BytesHoldPictures.{bytes-hold}
+use Rattle.filter.proofs.RedrawIsRenderInBytes.{layer-blank}
+use Rattle.text_print.proofs.PrintedRows.{row-end}
 
 -- a part of the bytes holds the picture that starts there
 read-part : (w h : ℕ) (d : List ℕ) (o k : ℕ) → size w h ≤ k → read w h (take k (drop o d)) 0 ≡ read w h d o

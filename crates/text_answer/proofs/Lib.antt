@@ -1,5 +1,5 @@
 -- Laws of what is printed for a text.
-pub mod Rooms
+pub mod BuffersSuffice
 pub mod LastLayer
 pub mod LastSpace
 pub mod Printed

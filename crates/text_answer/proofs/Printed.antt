@@ -13,16 +13,16 @@ use Rattle.filter.specs.declared.Call.the-variants as C
 use Rattle.filter.specs.Picture.{Picture}
 use Rattle.filter.specs.Bytes.{size, read}
 use Rattle.filter.specs.Answers.{numberOf, placeOf, accepted?}
-use Rattle.text_step.specs.Many.{stored}
+use Rattle.text_step.specs.ManyFields.{stored}
 use Rattle.text.specs.declared.Form.the-variants as F
 use Rattle.text.specs.declared.ReadAnswer.{ReadAnswer}
 use Rattle.text.specs.declared.ReadAnswer.the-variants.{Done, Line, Records}
 use Rattle.lines.specs.Lines.{readingIn, listIn, answerIn, layersIn}
-use Rattle.lines.proofs.Counted.{answer-some, render-bytes}
+use Rattle.lines.proofs.AllStepsCount.{answer-some, render-bytes}
 use Rattle.text.specs.declared.Reading.{Reading}
 use Rattle.text_print.specs.Output.{inSrgb, okText, refusedText}
 use Rattle.text_print.specs.Code.{Put}
-use Rattle.text_answer.specs.Answer.{rendering, lastLayer, lastSpace, answerText, sheetText, readText, readingText, printedOf, printedInto}
+use Rattle.text_answer.specs.Answer.{textRender, lastLayer, lastSpace, answerText, sheetText, readText, readingText, printedOf, printedInto}
 use Rattle.text_answer.specs.Code.{answerFrom}
 use Rattle.text_answer.proofs.LastLayer.{last-read}
 
@@ -45,17 +45,17 @@ answer-same a w h p q e = go (accepted? a) e
 
 -- the n steps of a text, drawn into a workspace of zeros
 module _ (s : List ℕ) (w h n : ℕ) (src d : List ℕ) (a : Answer) (steps : n ≡ readingIn F.Sheet s .count) (zeros : d ≡ replicate (n * size w h) 0)
-    (is : a ≡ answerIn (rendering s w h src d)) where
+    (is : a ≡ answerIn (textRender s w h src d)) where
   pub drawn-some : accepted? a ≡ true → 0 < n
   drawn-some t = omega (arith, steps, answer-some F.Sheet s w h C.Render src d (replicate (2 * size w h) 0) (ap accepted? (sym is) ∙ t))
 
-  pub drawn-text : (d′ : List ℕ) → d′ ≡ layersIn a (rendering s w h src d) → (q : Space) → q ≡ lastSpace s n → answerFrom a q w h n d′ ≡ sheetText s w h n src
+  pub drawn-text : (d′ : List ℕ) → d′ ≡ layersIn a (textRender s w h src d) → (q : Space) → q ≡ lastSpace s n → answerFrom a q w h n d′ ≡ sheetText s w h n src
   unfolding sheetText
   drawn-text d′ e q f =
       ap (λ (x : Space). answerFrom a x w h n d′) f
       ∙ answer-same a w h (inSrgb (lastSpace s n) (read w h d′ ((n - 1) * size w h))) (inSrgb (lastSpace s n) (lastLayer s w h n src))
       (λ t. ap (inSrgb (lastSpace s n)) (last-read w h (listIn F.Sheet s) n src d′ (drawn-some t) (e ∙ rw steps (render-bytes F.Sheet s w h a src d (replicate (2 * size w h) 0) t))))
-      ∙ ap (λ (x : Answer). answerText x w h (inSrgb (lastSpace s n) (lastLayer s w h n src))) (is ∙ ap (λ (l : List ℕ). answerIn (rendering s w h src l)) zeros)
+      ∙ ap (λ (x : Answer). answerText x w h (inSrgb (lastSpace s n) (lastLayer s w h n src))) (is ∙ ap (λ (l : List ℕ). answerIn (textRender s w h src l)) zeros)
 
 -- a reading
 pub reading-line : (s : List ℕ) (r : Reading) (n : ℕ) (a : ReadAnswer) → a ≡ Line n → refusedText 15 n ≡ readingText s r a

@@ -11,7 +11,7 @@ use Rattle.filter.specs.Picture.{Picture}
 use Rattle.filter.specs.Bytes.{size, layersOf}
 use Rattle.filter.specs.Steps.{stepAt}
 use Rattle.filter.specs.Answers.{numberOf, placeOf, accepted?}
-use Rattle.text_step.specs.Many.{stored}
+use Rattle.text_step.specs.ManyFields.{stored}
 use Rattle.text.specs.declared.Form.the-variants as F
 use Rattle.text.specs.declared.ReadAnswer.{ReadAnswer}
 use Rattle.text.specs.declared.ReadAnswer.the-variants.{Done, Line, Records}
@@ -20,12 +20,12 @@ use Rattle.text_print.specs.Output.{inSrgb, okText, refusedText}
 use Rattle.lines.specs.Lines.{GivenText, givingText, readingIn, listIn, answerIn}
 
 -- a full render of the text's sheet on the source src, with a scratch buffer of the right length
-abbrev pub rendering : List ℕ → ℕ → ℕ → List ℕ → List ℕ → GivenText
-rendering s w h src ws = givingText F.Sheet s Render w h src ws (replicate (2 * size w h) 0)
+abbrev pub textRender : List ℕ → ℕ → ℕ → List ℕ → List ℕ → GivenText
+textRender s w h src ws = givingText F.Sheet s Render w h src ws (replicate (2 * size w h) 0)
 
 -- its answer for n steps, with a workspace of the right length
-abbrev pub answered : List ℕ → ℕ → ℕ → ℕ → List ℕ → A.Answer
-answered s w h n src = answerIn (rendering s w h src (replicate (n * size w h) 0))
+abbrev pub textAnswer : List ℕ → ℕ → ℕ → ℕ → List ℕ → A.Answer
+textAnswer s w h n src = answerIn (textRender s w h src (replicate (n * size w h) 0))
 
 abbrev pub lastLayer : List ℕ → ℕ → ℕ → ℕ → List ℕ → Picture
 lastLayer s w h n src = layersOf w h (listIn F.Sheet s) n src (n - 1)
@@ -44,7 +44,7 @@ answerText a w h p = cond (accepted? a) (okText w h p) (refusedText (numberOf a)
 
 -- "`sheet` prints the last layer in sRGB"
 unfoldable pub sheetText : List ℕ → ℕ → ℕ → ℕ → List ℕ → List ℕ
-sheetText s w h n src = answerText (answered s w h n src) w h (inSrgb (lastSpace s n) (lastLayer s w h n src))
+sheetText s w h n src = answerText (textAnswer s w h n src) w h (inSrgb (lastSpace s n) (lastLayer s w h n src))
 
 -- the sheet on the pixels of its rows
 abbrev pub readText : List ℕ → Reading → List ℕ

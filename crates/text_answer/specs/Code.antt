@@ -12,7 +12,7 @@ use Rattle.text_print.specs.Output.{inSrgb}
 use Rattle.text_answer.specs.Answer.{answerText}
 
 -- every reading is within these bounds
-pub record Within (r : Reading) : Type 0 where
+pub record ReadingWithin (r : Reading) : Type 0 where
   pub wide : r .width ≤ longestTextSide
   pub high : r .height ≤ longestTextSide
   pub few : r .count ≤ mostSteps

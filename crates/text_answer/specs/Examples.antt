@@ -23,7 +23,7 @@ use Rattle.filter.specs.Checks as C
 use Rattle.text_field.specs.Words.{bytes}
 use Rattle.text_field.specs.Split as T
 use Rattle.text_field.specs.Field as F
-use Rattle.text_step.specs.Many as M
+use Rattle.text_step.specs.ManyFields as M
 use Rattle.text_step.specs.Spaces.{space?, spaceAt, closed?}
 use Rattle.text_step.specs.Kinds as K
 use Rattle.text_step.specs.StepLine as P
@@ -33,7 +33,7 @@ use Rattle.text.specs.Texts as X
 use Rattle.text.specs.Reading.{readingOf}
 use Rattle.text.specs.Examples.{example, canvasLine, rowLine}
 use Rattle.text_print.specs.Digits.{digit, shortest, decimal, hexByte, hexPixel}
-use Rattle.text_print.specs.Output.{line, listed, rowFields, rowLines, okText, refusedText}
+use Rattle.text_print.specs.Output.{line, fieldList, rowFields, rowLines, okText, refusedText}
 use Rattle.text_answer.specs.Answer.{answerText, sheetText, readingText, printedOf}
 
 abbrev pub blurLine : List ℕ
@@ -57,9 +57,9 @@ pub record Printed : Type 0 where
 pub printed : Printed
 unfolding nearest judgedRatio composited flooded firstInvalid remapped toLinear toSrgb differ? converted R.inside patch
     L.replaced L.initial L.rendered workOf paired S.shaped spaceOf effectOf B.read B.concat accepted? C.firstOf C.all C.inputs?
-    C.numbersAnswer C.stepAnswer C.sizesAnswer C.answerOf T.split T.join T.indexOf F.same F.digitOf F.accumulated
-    F.digitsOf F.naturalOf F.hexOf F.fractionOf F.magnitudeOf F.numberOf M.all M.concat M.padded M.stored space? spaceAt
-    closed? K.named K.firstNamed K.mergeInputs K.kindOf P.inputOf P.wiresOf P.operandsOf P.assembled P.stepAs P.stepOf
-    D.pixelsOf D.canvasOf linesOf X.row? X.line? X.after X.textLines X.textOf readingOf digit shortest decimal hexByte
-    hexPixel line listed rowFields rowLines okText refusedText answerText sheetText readingText printedOf
+    C.numbersAnswer C.stepAnswer C.sizesAnswer C.answerOf T.split T.joinPieces T.indexOf F.same F.digitOf F.accumulated
+    F.digitsOf F.naturalOf F.hexOf F.fractionOf F.magnitudeOf F.numeralOf M.allFields M.flattened M.padded M.stored space? spaceAt
+    closed? K.kindIf K.firstKind K.mergeInputs K.kindOf P.inputOf P.stepInputsOf P.stepNumbersOf P.assembled P.stepAs P.stepOf
+    D.storedPixels D.canvasIn linesOf X.row? X.line? X.after X.textLines X.textOf readingOf digit shortest decimal hexByte
+    hexPixel line fieldList rowFields rowLines okText refusedText answerText sheetText readingText printedOf
 printed = record { paper = refl; linear = refl; nothing = refl; stepless = refl; minus = refl }

@@ -26,8 +26,8 @@ ghost use Rattle.filter.specs.Limits.{mostSteps, longestTextSide};
 ghost use Rattle.text.specs.declared.Form.the-variants as F;
 ghost use Rattle.lines.specs.Lines.{readingIn, answerIn, layersIn};
 ghost use Rattle.text_print.specs.Code.{Put};
-ghost use Rattle.text_answer.specs.Answer.{longest, rendering, lastSpace, sheetText, readText, readingText, printedOf, printedInto};
-ghost use Rattle.text_answer.specs.Code.{Within, answerFrom};
+ghost use Rattle.text_answer.specs.Answer.{longest, textRender, lastSpace, sheetText, readText, readingText, printedOf, printedInto};
+ghost use Rattle.text_answer.specs.Code.{ReadingWithin, answerFrom};
 
 // No answer is longer: `ok` and sixteen rows of sixteen pixels.
 pub const LONGEST: usize = 2371;
@@ -35,8 +35,8 @@ pub const LONGEST: usize = 2371;
 // A full render of the text's steps with a scratch buffer of its own.
 fn draw(text: &[u8], width: usize, height: usize, source: &[u8], workspace: &mut [u8]) -> Answer
     requires { ⌜ (width ≤ longestTextSide) × (height ≤ longestTextSide) ⌝ }
-    ensures { λ a. ⌜ a ≡ answerIn (rendering (now (text .entry)) width height (now (source .entry)) (now (workspace .entry))) ⌝ }
-    ensures { λ a. ⌜ now (workspace .exit) ≡ layersIn a (rendering (now (text .entry)) width height (now (source .entry)) (now (workspace .entry))) ⌝ }
+    ensures { λ a. ⌜ a ≡ answerIn (textRender (now (text .entry)) width height (now (source .entry)) (now (workspace .entry))) ⌝ }
+    ensures { λ a. ⌜ now (workspace .exit) ≡ layersIn a (textRender (now (text .entry)) width height (now (source .entry)) (now (workspace .entry))) ⌝ }
 {
     let mut scratch = [0u8; 2 * Sheet::TEXT_PICTURE];
     let n = 2 * picture_size(width, height);
@@ -142,7 +142,7 @@ fn space_of(text: &[u8], from: usize, count: usize) -> Space
 }
 
 fn print_read(text: &[u8], reading: Reading, out: &mut [u8]) -> usize
-    requires { ⌜ (reading ≡ readingIn F.Sheet (now text)) × Within reading × (length (now out) ≡ longest) ⌝ }
+    requires { ⌜ (reading ≡ readingIn F.Sheet (now text)) × ReadingWithin reading × (length (now out) ≡ longest) ⌝ }
     ensures { λ r. ⌜ Put (readText (now (text .entry)) reading) 0 (now (out .entry)) (now (out .exit)) r ⌝ }
 {
     let width = reading.width;
@@ -155,7 +155,7 @@ fn print_read(text: &[u8], reading: Reading, out: &mut [u8]) -> usize
 }
 
 fn print_reading(text: &[u8], reading: Reading, out: &mut [u8]) -> usize
-    requires { ⌜ (reading ≡ readingIn F.Sheet (now text)) × Within reading × (length (now out) ≡ longest) ⌝ }
+    requires { ⌜ (reading ≡ readingIn F.Sheet (now text)) × ReadingWithin reading × (length (now out) ≡ longest) ⌝ }
     ensures { λ r. ⌜ Put (readingText (now (text .entry)) reading (reading .answer)) 0 (now (out .entry)) (now (out .exit)) r ⌝ }
 {
     let answer = reading.answer;

@@ -1,5 +1,5 @@
 -- Laws of what is printed. ReadBack is for a writer.
-pub mod Puts
-pub mod Decimals
-pub mod Fields
+pub mod PutTexts
+pub mod DecimalDigits
+pub mod PrintedRows
 pub mod ReadBack

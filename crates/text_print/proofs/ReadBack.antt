@@ -12,17 +12,17 @@ use borrow.Author.Tests.{lt-ltb, ne-eqb}
 use Rattle.pixel.specs.declared.Pixel.{Pixel}
 use Rattle.pixel.specs.Alpha.{Bytes}
 use Rattle.filter.specs.Bytes.{fourBytes}
-use Rattle.text_field.specs.Split.{split, join}
-use Rattle.text_field.specs.Field.{digitOf, accumulated, digitsOf, naturalOf, wholeOf, hexOf, given, valueIn}
+use Rattle.text_field.specs.Split.{split, joinPieces}
+use Rattle.text_field.specs.Field.{digitOf, accumulated, digitsOf, naturalOf, wholeOf, hexOf, given?, valueIn}
 use Rattle.text_field.specs.declared.Amount.{Amount}
 use Rattle.text_field.specs.declared.Amount.the-variants.{Is, Not}
-use Rattle.text_field.proofs.Amounts.{digit-decimal, digit-letter, digits-run, natural-short, natural-other, hex-is}
-use Rattle.text_field.proofs.Pieces.{occurs}
-use Rattle.text_field.proofs.Joined.{Free, none, more, split-join}
+use Rattle.text_field.proofs.DigitNumbers.{digit-decimal, digit-letter, digits-run, natural-short, natural-other, hex-is}
+use Rattle.text_field.proofs.SplitByIndex.{occurs}
+use Rattle.text_field.proofs.SplitOfJoin.{Free, none, more, split-join}
 use Rattle.text.specs.Document.{pixel?, bytesIn, pixelOf}
 use Rattle.text_print.specs.Digits.{digit, shortest, decimal, hexByte, hexPixel}
-use Rattle.text_print.specs.Output.{rowWord, listed, rowFields}
-use Rattle.text_print.proofs.Decimals.{digit-low, digit-high, shortest-digit, shortest-more, hex-length}
+use Rattle.text_print.specs.Output.{rowWord, fieldList, rowFields}
+use Rattle.text_print.proofs.DecimalDigits.{digit-low, digit-high, shortest-digit, shortest-more, hex-length}
 
 pub digit-read : (d : ℕ) → d < 16 → digitOf (digit d) ≡ d
 digit-read d h = go (decLt d 10)
@@ -131,7 +131,7 @@ module _ (p : Pixel) (b : Bytes p) where
       ∙ ap Is (omega arith)
 
   pub pixel-given : pixel? (hexPixel p) ≡ true
-  pixel-given = ap given pixel-word
+  pixel-given = ap given? pixel-word
 
   pub pixel-read : pixelOf (hexPixel p) ≡ fourBytes p
   unfolding word
@@ -163,12 +163,12 @@ free-append : (fs gs : List (List ℕ)) → Free 9 fs → Free 9 gs → Free 9 (
 free-append [] gs none g = g
 free-append (f ∷ fs) gs (more e r) g = more e (free-append fs gs r g)
 
-listed-free : (f : ℕ → List ℕ) → ((i : ℕ) → occurs 9 (f i) ≡ 0) → (n : ℕ) → Free 9 (listed f n)
-unfolding listed
+listed-free : (f : ℕ → List ℕ) → ((i : ℕ) → occurs 9 (f i) ≡ 0) → (n : ℕ) → Free 9 (fieldList f n)
+unfolding fieldList
 listed-free f h zero = none
-listed-free f h (suc n) = free-append (listed f n) (f n ∷ []) (listed-free f h n) (more (h n) none)
+listed-free f h (suc n) = free-append (fieldList f n) (f n ∷ []) (listed-free f h n) (more (h n) none)
 
 -- a row's line has its fields
-pub row-split : (w : ℕ) (row : ℕ → Pixel) → split 9 (join 9 (rowFields w row)) ≡ rowFields w row
+pub row-split : (w : ℕ) (row : ℕ → Pixel) → split 9 (joinPieces 9 (rowFields w row)) ≡ rowFields w row
 unfolding rowFields occurs
-row-split w row = split-join 9 rowWord (listed (λ x. hexPixel (row x)) w) (more refl (listed-free (λ x. hexPixel (row x)) (λ x. pixel-free (row x)) w))
+row-split w row = split-join 9 rowWord (fieldList (λ x. hexPixel (row x)) w) (more refl (listed-free (λ x. hexPixel (row x)) (λ x. pixel-free (row x)) w))

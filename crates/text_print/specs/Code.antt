@@ -8,7 +8,7 @@ use Rattle.pixel.specs.declared.Space as S
 use Rattle.pixel.specs.declared.Space.the-variants.{Srgb}
 use Rattle.pixel.specs.Bytes.{pixelAt}
 use Rattle.pixel.specs.Convert.{converted}
-use Rattle.text_step.specs.Many.{stored}
+use Rattle.text_step.specs.ManyFields.{stored}
 
 -- d′ is d with t stored from the index at on, and the text after it goes to the index `next`
 pub record Put (t : List ℕ) (at : ℕ) (d d′ : List ℕ) (next : ℕ) : Type 0 where

@@ -10,7 +10,7 @@ use Rattle.text_field.specs.Split as T
 use Rattle.filter.specs.Bytes as B
 use Rattle.filter.specs.Picture.{Picture}
 use Rattle.text_print.specs.Digits.{digit, shortest, decimal, hexByte, hexPixel}
-use Rattle.text_print.specs.Output.{line, listed, rowFields, rowLines, okText, refusedText}
+use Rattle.text_print.specs.Output.{line, fieldList, rowFields, rowLines, okText, refusedText}
 
 -- the last layer of the example of RULES 9.9
 abbrev pub picture : Picture
@@ -26,5 +26,5 @@ pub record Printed : Type 0 where
   pub refused : refusedText 15 4 ≡ bytes "refused\t15\t4\n"
 
 pub printed : Printed
-unfolding T.join B.concat digit shortest decimal hexByte hexPixel line listed rowFields rowLines okText refusedText
+unfolding T.joinPieces B.concat digit shortest decimal hexByte hexPixel line fieldList rowFields rowLines okText refusedText
 printed = record { none = refl; ten = refl; hundreds = refl; ok = refl; refused = refl }

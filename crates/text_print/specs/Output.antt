@@ -2,7 +2,7 @@
 use mathlib.Core.List.{List, [], _∷_, _++_}
 use Prim.Native.Nat.{ℕ, zero, suc}
 use Rattle.text_field.specs.Words.{bytes}
-use Rattle.text_field.specs.Split.{join}
+use Rattle.text_field.specs.Split.{joinPieces}
 use Rattle.pixel.specs.declared.Pixel.{Pixel}
 use Rattle.pixel.specs.declared.Space as S
 use Rattle.pixel.specs.declared.Space.the-variants.{Srgb}
@@ -23,16 +23,16 @@ rowWord = bytes "row"
 
 -- "fields parted by one tab, each line closed by a line feed"
 unfoldable pub line : List (List ℕ) → List ℕ
-line fs = join 9 fs ++ (10 ∷ [])
+line fs = joinPieces 9 fs ++ (10 ∷ [])
 
 -- f 0, .. , f (n - 1)
-unfoldable pub listed : (ℕ → List ℕ) → ℕ → List (List ℕ)
-listed f zero = []
-listed f (suc n) = listed f n ++ (f n ∷ [])
+unfoldable pub fieldList : (ℕ → List ℕ) → ℕ → List (List ℕ)
+fieldList f zero = []
+fieldList f (suc n) = fieldList f n ++ (f n ∷ [])
 
 -- w pixels: "row fields being pixels left to right"
 unfoldable pub rowFields : ℕ → (ℕ → Pixel) → List (List ℕ)
-rowFields w row = rowWord ∷ listed (λ x. hexPixel (row x)) w
+rowFields w row = rowWord ∷ fieldList (λ x. hexPixel (row x)) w
 
 -- the rows of a picture, top to bottom
 unfoldable pub rowLines : ℕ → ℕ → Picture → List ℕ

@@ -1,5 +1,5 @@
 -- Laws that the proofs of the reader cite.
-pub mod Gathered
-pub mod Stored
-pub mod Closed
-pub mod Assembled
+pub mod FieldsGathered
+pub mod StoredBytes
+pub mod SpaceField
+pub mod StepLineParts

@@ -18,11 +18,11 @@ use Rattle.filter.specs.Limits.{mostNumbers}
 use Rattle.filter.specs.Signature.{signatureOf, byteFieldsOf, inputsOf, numbersOf}
 use Rattle.filter.specs.Checks.{merges?}
 use Rattle.text_field.specs.Words.{bytes}
-use Rattle.text_field.specs.Field.{same, wholeOf, byteOf, given, valueIn}
+use Rattle.text_field.specs.Field.{same, wholeOf, byteOf, given?, valueIn}
 use Rattle.text_field.specs.declared.Amount.{Amount}
 use Rattle.text_step.specs.Spaces.{space?}
-use Rattle.text_step.specs.declared.Named.{Named}
-use Rattle.text_step.specs.declared.Named.the-variants.{Known, Unknown}
+use Rattle.text_step.specs.declared.KindFound.{KindFound}
+use Rattle.text_step.specs.declared.KindFound.the-variants.{Known, Unknown}
 
 abbrev pub operatorWord : Operator → List ℕ
 operatorWord O.Over = bytes "over"
@@ -55,14 +55,14 @@ kindWord (K.Pair p) = pairWord p
 kindWord (K.Merge n) = bytes "merge"
 
 -- a kind where the word is its own
-unfoldable pub named : Bool → Kind → Named → Named
-named true k other = Known k
-named false k other = other
+unfoldable pub kindIf : Bool → Kind → KindFound → KindFound
+kindIf true k other = Known k
+kindIf false k other = other
 
 -- the first of the kinds whose word is w
-unfoldable pub firstNamed : List ℕ → List Kind → Named
-firstNamed w [] = Unknown
-firstNamed w (k ∷ ks) = named (same w (kindWord k)) k (firstNamed w ks)
+unfoldable pub firstKind : List ℕ → List Kind → KindFound
+firstKind w [] = Unknown
+firstKind w (k ∷ ks) = kindIf (same w (kindWord k)) k (firstKind w ks)
 
 -- all kinds: a flood of colour r, g, b, and a merge of n inputs
 abbrev pub kinds : ℕ → ℕ → ℕ → ℕ → List Kind
@@ -75,16 +75,16 @@ kinds r g b n =
 abbrev pub byteField : List (List ℕ) → ℕ → Amount
 byteField fs i = byteOf (wholeOf (getD fs i []))
 
-abbrev pub byteAt : List (List ℕ) → ℕ → ℕ
-byteAt fs i = valueIn (byteField fs i)
+abbrev pub floodByte : List (List ℕ) → ℕ → ℕ
+floodByte fs i = valueIn (byteField fs i)
 
 -- a merge's inputs are the fields after the region, without the last where that is a working space: no input is so called
 unfoldable pub mergeInputs : List (List ℕ) → ℕ
 mergeInputs fs = cond (space? (getD fs (length fs - 1) [])) (length fs - 6) (length fs - 5)
 
 -- the kind of a step line: its word, and for flood its bytes, for merge the count of its inputs
-unfoldable pub kindOf : List (List ℕ) → Named
-kindOf fs = firstNamed (getD fs 0 []) (kinds (byteAt fs 5) (byteAt fs 6) (byteAt fs 7) (mergeInputs fs))
+unfoldable pub kindOf : List (List ℕ) → KindFound
+kindOf fs = firstKind (getD fs 0 []) (kinds (floodByte fs 5) (floodByte fs 6) (floodByte fs 7) (mergeInputs fs))
 
 -- how many fields a kind has: word and region, bytes, inputs, numbers
 abbrev pub fieldsOf : Kind → ℕ
@@ -92,7 +92,7 @@ fieldsOf k = 5 + byteFieldsOf k + inputsOf k + numbersOf k
 
 -- "R, G, B bytes"
 abbrev pub colour? : List (List ℕ) → Bool
-colour? fs = given (byteField fs 5) && (given (byteField fs 6) && given (byteField fs 7))
+colour? fs = given? (byteField fs 5) && (given? (byteField fs 6) && given? (byteField fs 7))
 
 -- "a flood byte above 255 .. is 15"
 abbrev pub bytes? : Kind → List (List ℕ) → Bool

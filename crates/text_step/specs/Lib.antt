@@ -1,5 +1,5 @@
 -- The line of a step: several fields, its working space, kinds, and the step.
-pub mod Many
+pub mod ManyFields
 pub mod Spaces
 pub mod Kinds
 pub mod StepLine

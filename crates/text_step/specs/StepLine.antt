@@ -6,27 +6,27 @@ use lib.ListN.{getD, take, drop, replicate}
 use Rattle.pixel.specs.declared.Space.{Space}
 use Rattle.filter.specs.declared.Region.{Region}
 use Rattle.filter.specs.declared.Input.the-variants.{Source, SourceAlpha, Layer}
-use Rattle.filter.specs.declared.Wire.{Wire}
-use Rattle.filter.specs.declared.Operand.{Operand}
+use Rattle.filter.specs.declared.StepInput.{StepInput}
+use Rattle.filter.specs.declared.StepNumber.{StepNumber}
 use Rattle.filter.specs.declared.Kind.{Kind}
 use Rattle.filter.specs.Limits.{mostNumbers}
 use Rattle.filter.specs.Signature.{byteFieldsOf, inputsOf, numbersOf}
-use Rattle.filter.specs.Steps.{noWire, noOperand, blankStep}
+use Rattle.filter.specs.Steps.{noInput, noNumber, blankStep}
 use Rattle.text_field.specs.Words.{bytes}
-use Rattle.text_field.specs.Field.{same, wholeOf, numberOf, given, valueIn}
+use Rattle.text_field.specs.Field.{same, wholeOf, numeralOf, given?, valueIn}
 use Rattle.text_field.specs.declared.Amount.{Amount}
 use Rattle.text_field.specs.declared.Amount.the-variants.{Is, Not}
 use Rattle.text_field.specs.declared.Numeral.{Numeral}
 use Rattle.text_field.specs.declared.Numeral.the-variants.{Reads, Malformed}
-use Rattle.text_step.specs.Many.{all, padded}
+use Rattle.text_step.specs.ManyFields.{allFields, padded}
 use Rattle.text_step.specs.Spaces.{spaceAt, closed?}
 use Rattle.text_step.specs.Kinds.{kindOf, fieldsOf, sound?}
 use Rattle.text_step.specs.declared.Reference.{Reference}
 use Rattle.text_step.specs.declared.Reference.the-variants.{To, Nowhere}
-use Rattle.text_step.specs.declared.Named.{Named}
-use Rattle.text_step.specs.declared.Named.the-variants.{Known, Unknown}
-use Rattle.text_step.specs.declared.Wires.{Wires}
-use Rattle.text_step.specs.declared.Operands.{Operands}
+use Rattle.text_step.specs.declared.KindFound.{KindFound}
+use Rattle.text_step.specs.declared.KindFound.the-variants.{Known, Unknown}
+use Rattle.text_step.specs.declared.StepInputs.{StepInputs}
+use Rattle.text_step.specs.declared.StepNumbers.{StepNumbers}
 use Rattle.text_step.specs.declared.StepLine as L
 
 -- field i as a whole field
@@ -38,65 +38,65 @@ wholeAt fs i = valueIn (wholeField fs i)
 
 -- "x, y, width, height"
 abbrev pub region? : List (List ℕ) → Bool
-region? fs = given (wholeField fs 1) && (given (wholeField fs 2) && (given (wholeField fs 3) && given (wholeField fs 4)))
+region? fs = given? (wholeField fs 1) && (given? (wholeField fs 2) && (given? (wholeField fs 3) && given? (wholeField fs 4)))
 
 abbrev pub regionOf : List (List ℕ) → Region
 regionOf fs = record { x = wholeAt fs 1; y = wholeAt fs 2; width = wholeAt fs 3; height = wholeAt fs 4 }
 
 -- "Inputs: `src`, `alpha` or a step number"
-abbrev pub layerOf : Amount → Reference
-layerOf (Is n) = To (Layer n)
-layerOf Not = Nowhere
+abbrev pub layerReference : Amount → Reference
+layerReference (Is n) = To (Layer n)
+layerReference Not = Nowhere
 
 unfoldable pub inputOf : List ℕ → Reference
-inputOf f = cond (same f (bytes "src")) (To Source) (cond (same f (bytes "alpha")) (To SourceAlpha) (layerOf (wholeOf f)))
+inputOf f = cond (same f (bytes "src")) (To Source) (cond (same f (bytes "alpha")) (To SourceAlpha) (layerReference (wholeOf f)))
 
-abbrev pub found : Reference → Bool
-found (To i) = true
-found Nowhere = false
+abbrev pub found? : Reference → Bool
+found? (To i) = true
+found? Nowhere = false
 
-abbrev pub wireTo : Reference → Wire
-wireTo (To i) = record { input = i }
-wireTo Nowhere = noWire
+abbrev pub stepInputTo : Reference → StepInput
+stepInputTo (To i) = record { input = i }
+stepInputTo Nowhere = noInput
 
 abbrev pub input? : List ℕ → Bool
-input? f = found (inputOf f)
+input? f = found? (inputOf f)
 
-abbrev pub wireOf : List ℕ → Wire
-wireOf f = wireTo (inputOf f)
+abbrev pub stepInputOf : List ℕ → StepInput
+stepInputOf f = stepInputTo (inputOf f)
 
-unfoldable pub wiresOf : List (List ℕ) → Wires
-wiresOf fs = record { good = all input? fs; wires = cond (all input? fs) (padded 4 noWire (map wireOf fs)) (replicate 4 noWire) }
+unfoldable pub stepInputsOf : List (List ℕ) → StepInputs
+stepInputsOf fs = record { good = allFields input? fs; inputs = cond (allFields input? fs) (padded 4 noInput (map stepInputOf fs)) (replicate 4 noInput) }
 
 -- numbers
-abbrev pub formed : Numeral → Bool
-formed (Reads n) = true
-formed Malformed = false
+abbrev pub formed? : Numeral → Bool
+formed? (Reads n) = true
+formed? Malformed = false
 
-abbrev pub operandIn : Numeral → Operand
-operandIn (Reads n) = record { number = n }
-operandIn Malformed = noOperand
+abbrev pub stepNumberIn : Numeral → StepNumber
+stepNumberIn (Reads n) = record { number = n }
+stepNumberIn Malformed = noNumber
 
 abbrev pub number? : List ℕ → Bool
-number? f = formed (numberOf f)
+number? f = formed? (numeralOf f)
 
-abbrev pub operandOf : List ℕ → Operand
-operandOf f = operandIn (numberOf f)
+abbrev pub stepNumberOf : List ℕ → StepNumber
+stepNumberOf f = stepNumberIn (numeralOf f)
 
-unfoldable pub operandsOf : List (List ℕ) → Operands
-operandsOf fs = record {
-  good = all number? fs;
-  operands = cond (all number? fs) (padded mostNumbers noOperand (map operandOf fs)) (replicate mostNumbers noOperand);
+unfoldable pub stepNumbersOf : List (List ℕ) → StepNumbers
+stepNumbersOf fs = record {
+  good = allFields number? fs;
+  numbers = cond (allFields number? fs) (padded mostNumbers noNumber (map stepNumberOf fs)) (replicate mostNumbers noNumber);
 }
 
 -- a step where every part is of the form
 abbrev pub noStep : L.StepLine
 noStep = record { good = false; step = blankStep }
 
-unfoldable pub assembled : Kind → Bool → Region → Wires → Operands → Space → L.StepLine
+unfoldable pub assembled : Kind → Bool → Region → StepInputs → StepNumbers → Space → L.StepLine
 assembled k b r w o s =
     cond (b && (w .good && o .good))
-    (record { good = true; step = record { kind = k; region = r; inputs = w .wires; numbers = o .operands; space = s } })
+    (record { good = true; step = record { kind = k; region = r; inputs = w .inputs; numbers = o .numbers; space = s } })
     noStep
 
 -- the line of a kind: five fields, the kind's bytes, inputs and numbers, and no more than a working space
@@ -104,15 +104,15 @@ unfoldable pub stepAs : Kind → List (List ℕ) → L.StepLine
 stepAs k fs =
     cond (sound? k fs && closed? (fieldsOf k) fs)
     (assembled k (region? fs) (regionOf fs)
-    (wiresOf (take (inputsOf k) (drop (5 + byteFieldsOf k) fs)))
-    (operandsOf (take (numbersOf k) (drop (5 + byteFieldsOf k + inputsOf k) fs)))
+    (stepInputsOf (take (inputsOf k) (drop (5 + byteFieldsOf k) fs)))
+    (stepNumbersOf (take (numbersOf k) (drop (5 + byteFieldsOf k + inputsOf k) fs)))
     (spaceAt fs (fieldsOf k)))
     noStep
 
-abbrev pub stepNamed : Named → List (List ℕ) → L.StepLine
-stepNamed (Known k) fs = stepAs k fs
-stepNamed Unknown fs = noStep
+abbrev pub stepFor : KindFound → List (List ℕ) → L.StepLine
+stepFor (Known k) fs = stepAs k fs
+stepFor Unknown fs = noStep
 
 -- a step's line
 unfoldable pub stepOf : List (List ℕ) → L.StepLine
-stepOf fs = stepNamed (kindOf fs) fs
+stepOf fs = stepFor (kindOf fs) fs

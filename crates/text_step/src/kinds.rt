@@ -1,5 +1,5 @@
 // The kinds by their words.
-use super::Named;
+use super::KindFound;
 use super::spaces::is_space;
 use filter::Kind;
 use filter::Map;
@@ -20,24 +20,24 @@ ghost use mathlib.Core.Path.{_≡_};
 ghost use lib.ListN.{length};
 ghost use Rattle.filter.specs.Signature.{signatureOf};
 ghost use Rattle.text_field.specs.Split.{split};
-ghost use Rattle.text_field.specs.Field.{same, given};
-ghost use Rattle.text_step.specs.Kinds.{named, kinds, firstNamed, kindOf, byteField, byteAt, mergeInputs, colour?, bytes?, sound?};
+ghost use Rattle.text_field.specs.Field.{same, given?};
+ghost use Rattle.text_step.specs.Kinds.{kindIf, kinds, firstKind, kindOf, byteField, floodByte, mergeInputs, colour?, bytes?, sound?};
 
 // The kind where the field is its word.
-fn or(f: &[u8], word: &[u8], kind: Kind, other: Named) -> Named
-    ensures { λ r. ⌜ r ≡ named (same (now (f .entry)) (now (word .entry))) kind other ⌝ }
+fn or(f: &[u8], word: &[u8], kind: Kind, other: KindFound) -> KindFound
+    ensures { λ r. ⌜ r ≡ kindIf (same (now (f .entry)) (now (word .entry))) kind other ⌝ }
 {
     if equals(f, word) {
-        return Named::Known(kind);
+        return KindFound::Known(kind);
     }
     other
 }
 
 // The kind that a word names, with the colour of a flood and the inputs of a merge.
-fn kind_named(f: &[u8], r: u8, g: u8, b: u8, inputs: usize) -> Named
-    ensures { λ o. ⌜ o ≡ firstNamed (now (f .entry)) (kinds r g b inputs) ⌝ }
+fn kind_by_word(f: &[u8], r: u8, g: u8, b: u8, inputs: usize) -> KindFound
+    ensures { λ o. ⌜ o ≡ firstKind (now (f .entry)) (kinds r g b inputs) ⌝ }
 {
-    let k = Named::Unknown;
+    let k = KindFound::Unknown;
     let k = or(f, b"merge", Kind::Merge(inputs), k);
     let k = or(f, b"arith", Kind::Pair(Pair::Arithmetic), k);
     let k = or(f, b"xor", Kind::Pair(Pair::Operator(Operator::Xor)), k);
@@ -57,14 +57,14 @@ fn kind_named(f: &[u8], r: u8, g: u8, b: u8, inputs: usize) -> Named
 }
 
 // Field i as a byte of a flood.
-fn byte_at(line: &[u8], i: usize) -> u8
-    ensures { λ o. ⌜ o ≡ byteAt (split 9 (now (line .entry))) i ⌝ }
+fn flood_byte(line: &[u8], i: usize) -> u8
+    ensures { λ o. ⌜ o ≡ floodByte (split 9 (now (line .entry))) i ⌝ }
 {
     byte_in(whole(field(line, i)))
 }
 
 fn byte_given(line: &[u8], i: usize) -> bool
-    ensures { λ o. ⌜ o ≡ given (byteField (split 9 (now (line .entry))) i) ⌝ }
+    ensures { λ o. ⌜ o ≡ given? (byteField (split 9 (now (line .entry))) i) ⌝ }
 {
     is_byte(whole(field(line, i)))
 }
@@ -81,15 +81,15 @@ fn merge_inputs(line: &[u8], n: usize) -> usize
 }
 
 // The kind of a line of n fields.
-pub fn kind_of(line: &[u8], n: usize) -> Named
+pub fn kind_of(line: &[u8], n: usize) -> KindFound
     requires { ⌜ n ≡ length (split 9 (now line)) ⌝ }
     ensures { λ o. ⌜ o ≡ kindOf (split 9 (now (line .entry))) ⌝ }
 {
-    kind_named(
+    kind_by_word(
         field(line, 0),
-        byte_at(line, 5),
-        byte_at(line, 6),
-        byte_at(line, 7),
+        flood_byte(line, 5),
+        flood_byte(line, 6),
+        flood_byte(line, 7),
         merge_inputs(line, n),
     )
 }

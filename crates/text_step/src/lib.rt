@@ -5,13 +5,13 @@ pub mod step_lines;
 
 use filter::Input;
 use filter::Kind;
-use filter::Operand;
 use filter::Sheet;
 use filter::Step;
-use filter::Wire;
+use filter::StepInput;
+use filter::StepNumber;
 
 // The kind that a step line names.
-pub enum Named {
+pub enum KindFound {
     Known(Kind),
     Unknown,
 }
@@ -23,15 +23,15 @@ pub enum Reference {
 }
 
 // The inputs of a step line, and whether each is of the form.
-pub struct Wires {
+pub struct StepInputs {
     pub good: bool,
-    pub wires: [Wire; 4],
+    pub inputs: [StepInput; 4],
 }
 
 // The numbers of a step line, and whether each is of the form.
-pub struct Operands {
+pub struct StepNumbers {
     pub good: bool,
-    pub operands: [Operand; Sheet::NUMBERS],
+    pub numbers: [StepNumber; Sheet::NUMBERS],
 }
 
 // The step of a line, and a blank one where the line is not of the form.

@@ -1,27 +1,27 @@
 // The line of a step.
-use super::Named;
-use super::Operands;
+use super::KindFound;
 use super::Reference;
+use super::StepInputs;
 use super::StepLine;
-use super::Wires;
+use super::StepNumbers;
 use super::kinds::is_sound;
 use super::kinds::kind_of;
 use super::spaces::is_closed;
 use super::spaces::space_at;
 use filter::Input;
 use filter::Kind;
-use filter::Operand;
 use filter::Region;
 use filter::Sheet;
 use filter::Step;
-use filter::Wire;
+use filter::StepInput;
+use filter::StepNumber;
 use filter::kinds::number_count;
 use filter::kinds::signature_of;
 use number::Number;
 use pixel::Space;
 use text_field::Amount;
 use text_field::Numeral;
-use text_field::decimals::number_of;
+use text_field::decimals::numeral_of;
 use text_field::lines::count;
 use text_field::lines::equals;
 use text_field::lines::field;
@@ -34,8 +34,9 @@ ghost use Prim.Native.Nat.{_+_, _≤_};
 ghost use lib.ListN.{length, take, drop};
 ghost use Rattle.filter.specs.Limits.{mostNumbers};
 ghost use Rattle.text_field.specs.Split.{split};
-ghost use Rattle.text_field.specs.Field.{given};
-ghost use Rattle.text_step.specs.StepLine.{wholeField, wholeAt, region?, regionOf, layerOf, inputOf, wiresOf, operandsOf, noStep, assembled, stepAs, stepOf};
+ghost use Rattle.text_field.specs.Field.{given?};
+ghost use Rattle.text_step.specs.StepLine.{wholeField, wholeAt, region?, regionOf, layerReference, inputOf, stepInputsOf, stepNumbersOf};
+ghost use Rattle.text_step.specs.StepLine.{noStep, assembled, stepAs, stepOf};
 
 // Field i as a whole field.
 pub fn whole_at(line: &[u8], i: usize) -> usize
@@ -45,7 +46,7 @@ pub fn whole_at(line: &[u8], i: usize) -> usize
 }
 
 fn whole_given(line: &[u8], i: usize) -> bool
-    ensures { λ o. ⌜ o ≡ given (wholeField (split 9 (now (line .entry))) i) ⌝ }
+    ensures { λ o. ⌜ o ≡ given? (wholeField (split 9 (now (line .entry))) i) ⌝ }
 {
     is_given(whole(field(line, i)))
 }
@@ -73,8 +74,8 @@ fn region_of(line: &[u8]) -> Region
     }
 }
 
-fn layer_of(r: Amount) -> Reference
-    ensures { λ o. ⌜ o ≡ layerOf r ⌝ }
+fn layer_reference(r: Amount) -> Reference
+    ensures { λ o. ⌜ o ≡ layerReference r ⌝ }
 {
     match r {
         Amount::Is(n) => Reference::To(Input::Layer(n as usize)),
@@ -92,63 +93,63 @@ fn input_of(f: &[u8]) -> Reference
     if equals(f, b"alpha") {
         return Reference::To(Input::SourceAlpha);
     }
-    layer_of(whole(f))
+    layer_reference(whole(f))
 }
 
 // The inputs of n fields from the field at on.
-fn wires_of(line: &[u8], at: usize, n: usize) -> Wires
+fn step_inputs(line: &[u8], at: usize, n: usize) -> StepInputs
     requires { ⌜ (n ≤ 4) × (at + n ≤ length (split 9 (now line))) ⌝ }
-    ensures { λ r. ⌜ r ≡ wiresOf (take n (drop at (split 9 (now (line .entry))))) ⌝ }
+    ensures { λ r. ⌜ r ≡ stepInputsOf (take n (drop at (split 9 (now (line .entry))))) ⌝ }
 {
-    let source = Wire {
+    let source = StepInput {
         input: Input::Source,
     };
-    let mut wires = [source; 4];
+    let mut inputs = [source; 4];
     let mut i = 0;
     while i < n {
         match input_of(field(line, at + i)) {
             Reference::To(x) => {
-                wires[i] = Wire { input: x };
+                inputs[i] = StepInput { input: x };
             }
             Reference::Nowhere => {
-                return Wires {
+                return StepInputs {
                     good: false,
-                    wires: [source; 4],
+                    inputs: [source; 4],
                 };
             }
         }
         i += 1;
     }
-    Wires { good: true, wires }
+    StepInputs { good: true, inputs }
 }
 
 // The numbers of n fields from the field at on.
-fn operands_of(line: &[u8], at: usize, n: usize) -> Operands
+fn step_numbers(line: &[u8], at: usize, n: usize) -> StepNumbers
     requires { ⌜ (n ≤ mostNumbers) × (at + n ≤ length (split 9 (now line))) ⌝ }
-    ensures { λ r. ⌜ r ≡ operandsOf (take n (drop at (split 9 (now (line .entry))))) ⌝ }
+    ensures { λ r. ⌜ r ≡ stepNumbersOf (take n (drop at (split 9 (now (line .entry))))) ⌝ }
 {
-    let zero = Operand {
+    let zero = StepNumber {
         number: Number::Decimal(0),
     };
-    let mut operands = [zero; Sheet::NUMBERS];
+    let mut numbers = [zero; Sheet::NUMBERS];
     let mut i = 0;
     while i < n {
-        match number_of(field(line, at + i)) {
+        match numeral_of(field(line, at + i)) {
             Numeral::Reads(x) => {
-                operands[i] = Operand { number: x };
+                numbers[i] = StepNumber { number: x };
             }
             Numeral::Malformed => {
-                return Operands {
+                return StepNumbers {
                     good: false,
-                    operands: [zero; Sheet::NUMBERS],
+                    numbers: [zero; Sheet::NUMBERS],
                 };
             }
         }
         i += 1;
     }
-    Operands {
+    StepNumbers {
         good: true,
-        operands,
+        numbers,
     }
 }
 
@@ -165,15 +166,15 @@ fn assemble(
     kind: Kind,
     given: bool,
     region: Region,
-    w: Wires,
-    o: Operands,
+    w: StepInputs,
+    o: StepNumbers,
     space: Space,
 ) -> StepLine
     ensures { λ s. ⌜ s ≡ assembled kind given region w o space ⌝ }
 {
     if both(given, both(w.good, o.good)) {
-        let inputs = w.wires;
-        let numbers = o.operands;
+        let inputs = w.inputs;
+        let numbers = o.numbers;
         return StepLine {
             good: true,
             step: Step {
@@ -208,8 +209,8 @@ fn step_as(line: &[u8], kind: Kind, n: usize) -> StepLine
         kind,
         region_given(line),
         region_of(line),
-        wires_of(line, 5 + bytes, inputs),
-        operands_of(line, 5 + bytes + inputs, numbers),
+        step_inputs(line, 5 + bytes, inputs),
+        step_numbers(line, 5 + bytes + inputs, numbers),
         space_at(line, fields),
     )
 }
@@ -219,7 +220,7 @@ pub fn step_of(line: &[u8]) -> StepLine
     ensures { λ o. ⌜ o ≡ stepOf (split 9 (now (line .entry))) ⌝ }
 {
     let n = count(line);
-    let Named::Known(kind) = kind_of(line, n) else {
+    let KindFound::Known(kind) = kind_of(line, n) else {
         return no_step();
     };
     step_as(line, kind, n)

@@ -94,7 +94,7 @@ fn widen(random: &mut Random, case: &mut Case) {
     case.rect = Region { x, y, width: 1 + random.below(width - x), height: 1 + random.below(height - y) };
 }
 
-/// The layers of an older picture, which differs inside the named rectangle only, where the call is one that a full
+/// The layers of an older picture, which differs inside the changed rectangle only, where the call is one that a full
 /// render accepts.
 fn hold_old_layers(random: &mut Random, case: &mut Case) {
     let Region { x, y, width, height } = case.rect;

@@ -31,7 +31,7 @@ fn as_written(name: &str, show: char, width: usize, height: usize, lines: &str) 
 fn line(name: &str, width: usize, alphas: &[u8], step: &str, rect: [usize; 4]) -> Entry {
     let mut call = call(name, 'a', width, alphas.len() / width, &format!("{step}\n"));
     call.case.source = alphas.iter().flat_map(|alpha| [0, 0, 0, *alpha]).collect();
-    call.named(rect)
+    call.changed(rect)
 }
 
 /// A call on one pixel.
@@ -47,7 +47,7 @@ fn bytes(pixels: &[u32]) -> Vec<u8> {
 }
 
 impl Entry {
-    fn named(mut self, [x, y, width, height]: [usize; 4]) -> Entry {
+    fn changed(mut self, [x, y, width, height]: [usize; 4]) -> Entry {
         self.case.rect = Region { x, y, width, height };
         self
     }
@@ -71,7 +71,7 @@ fn pixels() -> Vec<Entry> {
         pixel("P3", 0x0000ffff, OVER, &[0x80000080, 9]),
         // The flood's rectangle is empty, so its layer stays 00000009: 255 · 246 ÷ 255 of the blue is left.
         pixel("P3 stale", 0x0000ffff, OVER, &[9, 9]),
-        example.named([1, 0, 1, 1]),
+        example.changed([1, 0, 1, 1]),
         pixel("P4", 0x102030ff, "flood 0 0 1 1 255 9 0 1\nxor 0 0 1 1 0 src\n", &[0xff0900ff, 9]),
         pixel("P5", 0x000000ff, "flood 0 0 1 1 255 255 255 1\narith 0 0 1 1 0 src 0 0.5 0.5 0\n", &[0xffffffff, 9]),
         pixel("P7", 0xff0000ff, "saturate 0 0 1 1 src 0\n", &[9]),
@@ -195,10 +195,10 @@ fn sizes() -> Vec<Entry> {
         plain("4 long", |call| call.case.workspace.push(0)),
         plain("5 short", |call| call.case.scratch.truncate(31)),
         plain("5 none", |call| call.case.scratch.clear()),
-        plain("6 beyond", |_| ()).named([1, 0, 2, 1]),
-        plain("6 below", |_| ()).named([0, 2, 1, 1]),
-        plain("6 empty", |_| ()).named([3, 0, 0, 0]),
-        plain("6 wraps", |_| ()).named([most, 0, 2, 1]),
+        plain("6 beyond", |_| ()).changed([1, 0, 2, 1]),
+        plain("6 below", |_| ()).changed([0, 2, 1, 1]),
+        plain("6 empty", |_| ()).changed([3, 0, 0, 0]),
+        plain("6 wraps", |_| ()).changed([most, 0, 2, 1]),
     ]
 }
 
@@ -237,8 +237,8 @@ fn pixels_and_order() -> Vec<Entry> {
         second("11 before 8", "offset 2 2 1 1 0 0.5 x7fc00000"),
         second("11 before 13", "offset 2 2 1 1 0 0.5 0"),
         second("13 before 14", "lumalpha 1 0 2 2 src").with(|call| above(&mut call.case.source, 0)),
-        plain("5 before 6", |call| call.case.scratch.truncate(31)).named([1, 0, 2, 1]),
-        second("6 before 7", "over 0 0 2 2 src 1").named([0, 0, 3, 0]),
+        plain("5 before 6", |call| call.case.scratch.truncate(31)).changed([1, 0, 2, 1]),
+        second("6 before 7", "over 0 0 2 2 src 1").changed([0, 0, 3, 0]),
         second("15 line", "merge 0 0 2 2"),
         call("15 too many", '-', 1, 1, &"lumalpha 0 0 1 1 src\n".repeat(65)),
     ]

@@ -1,4 +1,4 @@
-//! Sheets on a canvas with a named rectangle, for the checks and the redraw rectangles alone: no pictures.
+//! Sheets on a canvas with a changed rectangle, for the checks and the redraw rectangles alone: no pictures.
 //!
 //! An entry is a line of seven fields of four hex digits with nothing between them (width, height, the rectangle's x, y,
 //! width and height, the length of the step lines) and then the step lines. Its answer is a line: its number from 0, the

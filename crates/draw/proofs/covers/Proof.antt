@@ -1,6 +1,6 @@
 -- `draw::covers` meets its contract, test by test. Assumes nothing.
 use borrow.Author.Tests.{eq-eqb, ne-eqb, le-leb, lt-leb}
-use Rattle.draw.specs.Covers.{covers?}
+use Rattle.draw.specs.CoversCanvas.{covers?}
 use Rattle.draw.proofs.covers.Statement.{statement}
 use Rattle.draw.proofs.covers.Tie as tie
 

@@ -2,9 +2,9 @@
 use mathlib.Core.Path.{refl}
 use Rattle.filter.specs.Kinds.{workOf, reads}
 use Rattle.filter.specs.Accepted.{Measured, Numbered}
-use Rattle.stage.specs.Shown.{shown}
-use Rattle.draw_point.proofs.Shapes.{kindless-values}
-use Rattle.draw.proofs.Known.{others-kindless, checked-known, drawn-known}
+use Rattle.buffers.specs.Shown.{shown}
+use Rattle.draw_point.proofs.KindlessShapes.{kindless-values}
+use Rattle.draw.proofs.ShapeKnown.{others-kindless, checked-known, drawn-known}
 use borrow.Author.Needs.{needs}
 use Rattle.draw.proofs.draw_shape.Statement.{statement}
 use Rattle.draw.proofs.draw_shape.Tie as tie

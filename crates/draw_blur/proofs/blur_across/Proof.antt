@@ -5,16 +5,16 @@ use mathlib.Core.Logic.{⊎-elim}
 use native.Mathlib.Omega.{arith}
 use borrow.Author.Needs.{needs}
 use lib.ListN.{length}
-use Rattle.stage.specs.Shown.{shown}
-use Rattle.stage.specs.Strip.{Strip}
+use Rattle.buffers.specs.Shown.{shown}
+use Rattle.buffers.specs.Strip.{Strip}
 use Rattle.window.proofs.Numbers.{area-le}
-use Rattle.stage.proofs.Shown.{shown-blank}
-use Rattle.draw_window.specs.Passes.{acrossOf}
-use Rattle.draw_window.proofs.Strips.{strip-none, reached-in, strip-area}
+use Rattle.buffers.proofs.ShownInputs.{shown-blank}
+use Rattle.draw_window.specs.LineRules.{acrossOf}
+use Rattle.draw_window.proofs.StripRows.{strip-none, looked-at-in, strip-area}
 use Rattle.filter.specs.Limits.{longestSide, mostPixels}
-use Rattle.draw_blur.specs.Blurs.{blurs}
-use Rattle.draw_blur.proofs.Blurs.{blurs-banded}
-use Rattle.draw_blur.proofs.Turning.{lanes-worked, strip-gathered, rows-room}
+use Rattle.draw_blur.specs.BlurRule.{blurs}
+use Rattle.draw_blur.proofs.BlurBanded.{blurs-banded}
+use Rattle.draw_blur.proofs.RowsAsLanes.{lanes-worked, strip-gathered, rows-room}
 use Rattle.draw_blur.proofs.blur_across.Statement.{statement}
 use Rattle.draw_blur.proofs.blur_across.Tie as tie
 
@@ -27,16 +27,16 @@ abbrev μ-loop : tie.MeasureT-loop
 μ-loop workspace source scratch₀ context pairs input d left right top bottom width reach span places skip tile₀ sums₀ y₀ scratch tile sums y = bottom - y
 
 -- what holds of the span
-module _ (g : tie.After-reached Inv-loop μ-loop) where
+module _ (g : tie.After-looked-at Inv-loop μ-loop) where
   abbrev s : tie.Start Inv-loop μ-loop
   s = g .before .before .before .before .before .before
 
-  span : (g .reached .result .from ≤ s .args .strip .left) × (s .args .strip .right ≤ g .reached .result .to) × (g .reached .result .to ≤ s .args .context .w)
-  span = reached-in _ _ _ _ _ _ _ (g .reached .ensures) (s .pre .1 .0 .some-wide) (s .pre .1 .0 .wide)
+  span : (g .looked-at .result .from ≤ s .args .strip .left) × (s .args .strip .right ≤ g .looked-at .result .to) × (g .looked-at .result .to ≤ s .args .context .w)
+  span = looked-at-in _ _ _ _ _ _ _ (g .looked-at .ensures) (s .pre .1 .0 .some-wide) (s .pre .1 .0 .wide)
 
 -- what holds of the rows of a turn
 module _ (g : tie.After-lesser Inv-loop μ-loop) where
-  abbrev r : tie.After-reached Inv-loop μ-loop
+  abbrev r : tie.After-looked-at Inv-loop μ-loop
   r = g .before .before .before .before .before
 
   abbrev t : tie.Start Inv-loop μ-loop
@@ -63,8 +63,8 @@ sub-width c = search needs
 spread-of-requires : tie.Need-spread-of-requires Inv-loop μ-loop
 spread-of-requires c κs = search needs
 
-reached-requires : tie.Need-reached-requires Inv-loop μ-loop
-reached-requires c κs = search needs
+looked-at-requires : tie.Need-looked-at-requires Inv-loop μ-loop
+looked-at-requires c κs = search needs
 
 sub-places : tie.Need-sub-places Inv-loop μ-loop
 sub-places c = search needs
@@ -149,7 +149,7 @@ loop-again c =
     let L = g .before .before .loop in
     let a = t g .args in
     let B = blurs-banded (a .d) _ (r g .before .spread-of .ensures .0) in
-    let K = lanes-worked _ _ _ _ _ _ (shown-blank (a .context) (a .source .now) (a .workspace .now) (a .input)) B _ _ _ _ _ _ _ _ _ (r g .reached .ensures) (t g .pre .1 .0 .wide) (few g) (q .deal-rows .ensures .lanes) (p .pass-lines .ensures .0) in (
+    let K = lanes-worked _ _ _ _ _ _ (shown-blank (a .context) (a .source .now) (a .workspace .now) (a .input)) B _ _ _ _ _ _ _ _ _ (r g .looked-at .ensures) (t g .pre .1 .0 .wide) (few g) (q .deal-rows .ensures .lanes) (p .pass-lines .ensures .0) in (
       omega (arith, L .inv .0),
       fits g,
       search needs,
@@ -175,7 +175,7 @@ blur-across-spec =
     μ-loop
     sub-width
     spread-of-requires
-    reached-requires
+    looked-at-requires
     sub-places
     sub-skip
     mul-skip

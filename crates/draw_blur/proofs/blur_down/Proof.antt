@@ -3,7 +3,7 @@ use Prim.Native.Nat.{_*_, _/_}
 use mathlib.Core.Logic.{⊎-elim}
 use native.Mathlib.Omega.{arith}
 use borrow.Author.Needs.{needs}
-use Rattle.draw_window.proofs.Strips.{whole-pixels}
+use Rattle.draw_window.proofs.StripRows.{whole-pixels}
 use Rattle.draw_blur.proofs.blur_down.Statement.{statement}
 use Rattle.draw_blur.proofs.blur_down.Tie as tie
 

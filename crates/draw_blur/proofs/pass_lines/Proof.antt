@@ -3,7 +3,7 @@ use mathlib.Core.Path.{refl}
 use mathlib.Core.Logic.{inl, inr}
 use native.Mathlib.Omega.{arith}
 use borrow.Author.Needs.{needs}
-use Rattle.draw_blur.proofs.Blurs.{worked-none, worked-passes}
+use Rattle.draw_blur.proofs.BlurBanded.{worked-none, worked-passes}
 use Rattle.draw_blur.proofs.pass_lines.Statement.{statement}
 use Rattle.draw_blur.proofs.pass_lines.Tie as tie
 

@@ -5,9 +5,9 @@ use mathlib.Core.Path.{sym, ap}
 use native.Mathlib.Omega.{arith}
 use Rattle.window.specs.Limits.{longestRow}
 use Rattle.pixel.specs.declared.Pixel.{Pixel}
-use Rattle.stage.specs.Shown.{shown}
-use Rattle.stage.proofs.Rows.{drawn-none, drawn-new}
-use Rattle.stage.proofs.LoadedRows.{prefix-long}
+use Rattle.buffers.specs.Shown.{shown}
+use Rattle.buffers.proofs.DrawnRows.{drawn-none, drawn-new}
+use Rattle.buffers.proofs.LoadedRows.{prefix-long}
 use borrow.Author.Needs.{needs}
 use Rattle.draw_map.proofs.draw_map.Statement.{statement}
 use Rattle.draw_map.proofs.draw_map.Tie as tie

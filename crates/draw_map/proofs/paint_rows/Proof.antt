@@ -4,22 +4,22 @@ use Prim.Native.Nat.{_-_, _*_, _≤_, _<_, max}
 use mathlib.Core.Path.{_≡_, sym, ap, _∙_}
 use native.Mathlib.Omega.{arith}
 use lib.ListN.{length}
-use Rattle.pixel.proofs.Painting.{painted-as}
+use Rattle.pixel.proofs.PaintedRows.{painted-as}
 use Rattle.filter.specs.Picture.{Picture}
-use Rattle.stage.specs.Drawn.{band}
-use Rattle.stage.proofs.Rows.{drawn-none, drawn-as, drawn-more}
-use Rattle.stage.proofs.Later.{drawable-later, input-later}
-use Rattle.draw_map.specs.Code.{worked, MappingDrawn}
+use Rattle.buffers.specs.Drawn.{band}
+use Rattle.buffers.proofs.DrawnRows.{drawn-none, drawn-as, drawn-more}
+use Rattle.buffers.proofs.AfterDrawing.{drawable-later, input-later}
+use Rattle.draw_map.specs.Code.{byMethod, MappingDrawn}
 use borrow.Author.Needs.{needs}
 use Rattle.draw_map.proofs.paint_rows.Statement.{statement}
 use Rattle.draw_map.proofs.paint_rows.Tie as tie
 
 abbrev Inv-loop : tie.InvT-loop
-Inv-loop workspace₀ source context pairs mapping products luma inverse a₀ left right top bottom y₀ workspace a y =
+Inv-loop workspace₀ source context pairs mapping products luminances inverse a₀ left right top bottom y₀ workspace a y =
     (top ≤ y) × (y ≤ max top bottom) × MappingDrawn context mapping (band left right top y) source workspace₀ workspace × (length a ≡ 4 * (right - left))
 
 abbrev μ-loop : tie.MeasureT-loop
-μ-loop workspace₀ source context pairs mapping products luma inverse a₀ left right top bottom y₀ workspace a y = bottom - y
+μ-loop workspace₀ source context pairs mapping products luminances inverse a₀ left right top bottom y₀ workspace a y = bottom - y
 
 loop-holds : tie.Need-loop-holds Inv-loop μ-loop
 loop-holds c =
@@ -60,7 +60,7 @@ loop-again c =
       omega (arith, I .0),
       omega (arith, loop-test-at .loop-test .taken, I .1),
       drawn-more _ _ _ _ _ _ _ _ _ _ _ (I .2)
-          (painted-as _ _ _ _ _ _ _ (λ x l m. ap (λ (p : Picture). worked (a .mapping .method) (p x (L .y))) same) (paint-at .paint .ensures))
+          (painted-as _ _ _ _ _ _ _ (λ x l m. ap (λ (p : Picture). byMethod (a .mapping .method) (p x (L .y))) same) (paint-at .paint .ensures))
           (I .0) (s .pre .1 .0 .1) (s .pre .1 .0 .0 .right) high,
       paint-at .paint .kept .1 .1 .1 .1 .1 .1 .1 .1 .1 .0 ∙ I .3,
     )

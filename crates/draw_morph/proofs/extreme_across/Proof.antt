@@ -4,16 +4,16 @@ use mathlib.Core.Path.{_≡_, refl, _∙_}
 use native.Mathlib.Omega.{arith}
 use borrow.Author.Needs.{needs}
 use lib.ListN.{length}
-use Rattle.stage.specs.Shown.{shown}
-use Rattle.stage.specs.Strip.{Strip}
-use Rattle.stage.proofs.Shown.{shown-blank}
-use Rattle.draw_window.specs.Passes.{acrossOf}
-use Rattle.stage.proofs.Sizes.{row-room}
-use Rattle.draw_window.proofs.Strips.{strip-none, strip-painted}
-use Rattle.draw_window.proofs.Bands.{band-row}
+use Rattle.buffers.specs.Shown.{shown}
+use Rattle.buffers.specs.Strip.{Strip}
+use Rattle.buffers.proofs.ShownInputs.{shown-blank}
+use Rattle.draw_window.specs.LineRules.{acrossOf}
+use Rattle.buffers.proofs.RowsFit.{strip-row-room}
+use Rattle.draw_window.proofs.StripRows.{strip-none, strip-painted}
+use Rattle.draw_window.proofs.BandIsEnough.{band-row}
 use Rattle.filter.specs.Limits.{longestRow}
-use Rattle.draw_morph.specs.Extremes.{extremes}
-use Rattle.draw_morph.proofs.Extremes.{extremes-banded}
+use Rattle.draw_morph.specs.ExtremeRule.{extremes}
+use Rattle.draw_morph.proofs.ExtremeBanded.{extremes-banded}
 use Rattle.draw_morph.proofs.extreme_across.Statement.{statement}
 use Rattle.draw_morph.proofs.extreme_across.Tie as tie
 
@@ -28,19 +28,19 @@ abbrev μ-loop : tie.MeasureT-loop
 sub-width : tie.Need-sub-width Inv-loop μ-loop
 sub-width c = search needs
 
-reached-requires : tie.Need-reached-requires Inv-loop μ-loop
-reached-requires c κs = search needs
+looked-at-requires : tie.Need-looked-at-requires Inv-loop μ-loop
+looked-at-requires c κs = search needs
 
 loop-holds : tie.Need-loop-holds Inv-loop μ-loop
 loop-holds c = (omega arith, omega arith, search needs, refl, strip-none _ _ _ _ _ _)
 
-slice-aggregate-load : tie.Need-slice-aggregate-load Inv-loop μ-loop
-slice-aggregate-load c = search needs
+slice-aggregate-load-line : tie.Need-slice-aggregate-load-line Inv-loop μ-loop
+slice-aggregate-load-line c = search needs
 
-load-requires : tie.Need-load-requires Inv-loop μ-loop
-load-requires c κs =
+load-line-requires : tie.Need-load-line-requires Inv-loop μ-loop
+load-line-requires c κs =
     let s = c .before .before .before .before .before .before .before .before in
-    let R = c .before .before .before .reached .ensures in
+    let R = c .before .before .before .looked-at .ensures in
     ((s .pre .0 .0, record { high = omega arith; order = omega arith; wide = omega arith }), (s .pre .0 .1, omega (arith, s .pre .0 .0 .sized .wide)))
 
 sub-at : tie.Need-sub-at Inv-loop μ-loop
@@ -51,7 +51,7 @@ mul-at c =
     let s = c .before .before .before .before .before .before .before .before .before .before in
     let L = c .before .before .before .before .loop in
     let t = s .args .strip in
-    omega (arith, row-room (L .y) (t .top) (t .bottom) (t .right - t .left) (omega arith) (omega arith))
+    omega (arith, strip-row-room (L .y) (t .top) (t .bottom) (t .right - t .left) (omega arith) (omega arith))
 
 slice-aggregate-extreme-row : tie.Need-slice-aggregate-extreme-row Inv-loop μ-loop
 slice-aggregate-extreme-row c = search needs
@@ -65,11 +65,11 @@ sub-extreme-row-2 c = search needs
 extreme-row-requires : tie.Need-extreme-row-requires Inv-loop μ-loop
 extreme-row-requires c κs =
     let s = c .before .before .before .before .before .before .before .before .before .before .before .before in
-    let R = c .before .before .before .before .before .before .before .reached .ensures in
+    let R = c .before .before .before .before .before .before .before .looked-at .ensures in
     let L = c .before .before .before .before .before .before .loop in
     let t = s .args .strip in (
-      (omega (arith, c .before .before .before .load .ensures .long, L .inv .2), omega arith, omega (arith, s .pre .0 .0 .sized .wide), s .pre .0 .2, s .pre .0 .3),
-      (omega arith, omega (arith, row-room (L .y) (t .top) (t .bottom) (t .right - t .left) (omega arith) (omega arith), L .inv .3)),
+      (omega (arith, c .before .before .before .load-line .ensures .long, L .inv .2), omega arith, omega (arith, s .pre .0 .0 .sized .wide), s .pre .0 .2, s .pre .0 .3),
+      (omega arith, omega (arith, strip-row-room (L .y) (t .top) (t .bottom) (t .right - t .left) (omega arith) (omega arith), L .inv .3)),
     )
 
 add-y : tie.Need-add-y Inv-loop μ-loop
@@ -82,9 +82,9 @@ loop-again : tie.Need-loop-again Inv-loop μ-loop
 loop-again c =
     let s = c .before .before .before .before .before .before .before .before .before .before .before .before .before .before .before .before in
     let a = s .args in
-    let R = c .before .before .before .before .before .before .before .before .before .before .before .reached .ensures in
+    let R = c .before .before .before .before .before .before .before .before .before .before .before .looked-at .ensures in
     let L = c .before .before .before .before .before .before .before .before .before .before .loop in
-    let G = c .before .before .before .before .before .before .before .load .ensures in
+    let G = c .before .before .before .before .before .before .before .load-line .ensures in
     let P = c .before .before .before .extreme-row .ensures in (
       omega arith,
       omega arith,
@@ -110,10 +110,10 @@ extreme-across-spec =
     Inv-loop
     μ-loop
     sub-width
-    reached-requires
+    looked-at-requires
     loop-holds
-    slice-aggregate-load
-    load-requires
+    slice-aggregate-load-line
+    load-line-requires
     sub-at
     mul-at
     slice-aggregate-extreme-row

@@ -4,8 +4,8 @@ use mathlib.Core.Path.{_≡_, sym}
 use mathlib.Core.Logic.{inl, ⊎-elim}
 use native.Mathlib.Omega.{arith}
 use borrow.Author.Needs.{needs}
-use Rattle.draw_window.proofs.Strips.{whole-pixels}
-use Rattle.draw_morph.proofs.Extremes.{worked}
+use Rattle.draw_window.proofs.StripRows.{whole-pixels}
+use Rattle.draw_morph.proofs.ExtremeBanded.{worked-extremes}
 use Rattle.draw_morph.proofs.extreme_down.Statement.{statement}
 use Rattle.draw_morph.proofs.extreme_down.Tie as tie
 
@@ -33,7 +33,7 @@ returns c =
     let r = c .before .before .extreme-lines .result in
     let K = c .before .before .extreme-lines .ensures in
     let e = whole-pixels r (a .half) (K .place) in
-    (rw e (worked _ _ _ _ _ _ _ _ _ _ K), ⊎-elim (λ z. omega arith) (λ z. omega arith) (K .place))
+    (rw e (worked-extremes _ _ _ _ _ _ _ _ _ _ K), ⊎-elim (λ z. omega arith) (λ z. omega arith) (K .place))
 
 pub extreme-down-spec : {M : Type 1} → statement M
 extreme-down-spec =

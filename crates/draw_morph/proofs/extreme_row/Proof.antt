@@ -3,10 +3,10 @@ use Prim.Native.Nat.{_+_, _-_, _*_, _/_}
 use mathlib.Core.Logic.{inl, ⊎-elim}
 use native.Mathlib.Omega.{arith}
 use borrow.Author.Needs.{needs}
-use Rattle.pixel.proofs.Painting.{painted-as}
-use Rattle.draw_window.proofs.Channels.{row-pixel}
-use Rattle.draw_window.proofs.Strips.{whole-pixels}
-use Rattle.draw_morph.proofs.Extremes.{worked}
+use Rattle.pixel.proofs.PaintedRows.{painted-as}
+use Rattle.draw_window.proofs.PixelChannels.{row-pixel}
+use Rattle.draw_window.proofs.StripRows.{whole-pixels}
+use Rattle.draw_morph.proofs.ExtremeBanded.{worked-extremes}
 use Rattle.draw_morph.proofs.extreme_row.Statement.{statement}
 use Rattle.draw_morph.proofs.extreme_row.Tie as tie
 
@@ -35,7 +35,7 @@ returns c =
     let a = c .before .before .before .before .before .before .before .before .before .before .before .args in
     let r = c .before .before .before .before .before .before .before .extreme-lines .result in
     let K = c .before .before .before .before .before .before .before .extreme-lines .ensures in
-    let W = worked _ _ _ _ _ _ _ _ _ _ K in
+    let W = worked-extremes _ _ _ _ _ _ _ _ _ _ K in
     painted-as _ _ _ _ _ _ _ (λ x l m.
     let i = a .skip + (x - a .at) in
     row-pixel _ _ _ r (a .count) i (4 * (r / 4 + a .skip + (x - a .at))) W (omega (arith, whole-pixels r 1152 (K .place))) (omega arith))

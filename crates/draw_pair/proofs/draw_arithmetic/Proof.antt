@@ -1,11 +1,11 @@
 -- `draw_pair::draw_arithmetic` meets its contract: the table is prepared. Assumes nothing.
 use mathlib.Core.Path.{ap}
-use Rattle.pixel.specs.Arithmetic.{combined}
+use Rattle.pixel.specs.Arithmetic.{byArithmetic}
 use Rattle.pixel.specs.declared.Arithmetic.{Arithmetic}
-use Rattle.filter.proofs.Ranges.{arithmetic-allowed}
-use Rattle.stage.specs.Shown.{shown}
-use Rattle.stage.proofs.Rows.{drawn-new}
-use Rattle.draw_pair.specs.Code.{worked, Prepared}
+use Rattle.filter.proofs.AllowedCoefficients.{arithmetic-allowed}
+use Rattle.buffers.specs.Shown.{shown}
+use Rattle.buffers.proofs.DrawnRows.{drawn-new}
+use Rattle.draw_pair.specs.Code.{byMethod, Prepared}
 use borrow.Author.Needs.{needs}
 use Rattle.draw_pair.proofs.draw_arithmetic.Statement.{statement}
 use Rattle.draw_pair.proofs.draw_arithmetic.Tie as tie
@@ -36,14 +36,14 @@ same-length : tie.Need-same-length
 same-length c = search needs
 
 returns : tie.Need-returns
-unfolding worked
+unfolding byMethod
 returns c =
     let draw-prepared-at = c .before .before in
     let arithmetic-of-at = draw-prepared-at .before .before .before .before .before .before in
     let s = arithmetic-of-at .before .before .before .before in
     let a = s .args in
     let E = shown (a .context) (a .source .now) (a .workspace .now) in
-    drawn-new _ _ _ _ _ _ _ _ (λ x y l. ap (λ (k : Arithmetic). combined k (E (a .i) x y) (E (a .j) x y)) (arithmetic-of-at .arithmetic-of .ensures)) (draw-prepared-at .draw-prepared .ensures)
+    drawn-new _ _ _ _ _ _ _ _ (λ x y l. ap (λ (k : Arithmetic). byArithmetic k (E (a .i) x y) (E (a .j) x y)) (arithmetic-of-at .arithmetic-of .ensures)) (draw-prepared-at .draw-prepared .ensures)
 
 pub draw-arithmetic-spec : {M : Type 1} → statement M
 draw-arithmetic-spec =

@@ -2,8 +2,8 @@
 -- Assumes nothing.
 use native.Mathlib.Omega.{arith}
 use Rattle.filter.specs.Kinds.{paired}
-use Rattle.stage.proofs.Rows.{drawn-none, drawn-new}
-use Rattle.draw_pair.specs.Code.{worked, Prepared}
+use Rattle.buffers.proofs.DrawnRows.{drawn-none, drawn-new}
+use Rattle.draw_pair.specs.Code.{byMethod, Prepared}
 use borrow.Author.Needs.{needs}
 use Rattle.draw_pair.proofs.draw_pair.Statement.{statement}
 use Rattle.draw_pair.proofs.draw_pair.Tie as tie
@@ -38,7 +38,7 @@ same-length : tie.Need-same-length
 same-length c = search needs
 
 returns-2 : tie.Need-returns-2
-unfolding worked paired
+unfolding byMethod paired
 returns-2 c =
     let draw-prepared-at = c .before .before in
     let pair-at = draw-prepared-at .before .before .before .before in

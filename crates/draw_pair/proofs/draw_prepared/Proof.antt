@@ -3,7 +3,7 @@ use Prim.Native.Nat.{_-_, _*_, _≤_}
 use mathlib.Core.Path.{sym}
 use native.Mathlib.Omega.{arith}
 use Rattle.window.specs.Limits.{longestRow}
-use Rattle.stage.proofs.LoadedRows.{prefix-long}
+use Rattle.buffers.proofs.LoadedRows.{prefix-long}
 use borrow.Author.Needs.{needs}
 use Rattle.draw_pair.proofs.draw_prepared.Statement.{statement}
 use Rattle.draw_pair.proofs.draw_prepared.Tie as tie

@@ -4,23 +4,23 @@ use Prim.Native.Nat.{_-_, _*_, _≤_, _<_, max}
 use mathlib.Core.Path.{_≡_, sym, ap₂, _∙_}
 use native.Mathlib.Omega.{arith}
 use lib.ListN.{length}
-use Rattle.pixel.proofs.Painting.{painted-as}
+use Rattle.pixel.proofs.PaintedRows.{painted-as}
 use Rattle.filter.specs.Picture.{Picture}
-use Rattle.stage.specs.Drawn.{band}
-use Rattle.stage.proofs.Rows.{drawn-none, drawn-as, drawn-more}
-use Rattle.stage.proofs.Later.{drawable-later, input-later}
-use Rattle.draw_pair.specs.Code.{worked, PairingDrawn}
+use Rattle.buffers.specs.Drawn.{band}
+use Rattle.buffers.proofs.DrawnRows.{drawn-none, drawn-as, drawn-more}
+use Rattle.buffers.proofs.AfterDrawing.{drawable-later, input-later}
+use Rattle.draw_pair.specs.Code.{byMethod, PairingDrawn}
 use borrow.Author.Needs.{needs}
 use Rattle.draw_pair.proofs.paint_rows.Statement.{statement}
 use Rattle.draw_pair.proofs.paint_rows.Tie as tie
 
 abbrev Inv-loop : tie.InvT-loop
-Inv-loop workspace₀ source context pairs pairing sums a₀ b₀ f₀ g₀ left right top bottom y₀ workspace a b f g y =
-    (top ≤ y) × (y ≤ max top bottom) × PairingDrawn context pairing (band left right top y) source workspace₀ workspace
+Inv-loop workspace₀ source pairs pairing sums a₀ b₀ f₀ g₀ left right top bottom y₀ workspace a b f g y =
+    (top ≤ y) × (y ≤ max top bottom) × PairingDrawn pairing (band left right top y) source workspace₀ workspace
     × (length a ≡ 4 * (right - left)) × (length b ≡ 4 * (right - left)) × (length f ≡ 4 * (right - left)) × (length g ≡ 4 * (right - left))
 
 abbrev μ-loop : tie.MeasureT-loop
-μ-loop workspace₀ source context pairs pairing sums a₀ b₀ f₀ g₀ left right top bottom y₀ workspace a b f g y = bottom - y
+μ-loop workspace₀ source pairs pairing sums a₀ b₀ f₀ g₀ left right top bottom y₀ workspace a b f g y = bottom - y
 
 loop-holds : tie.Need-loop-holds Inv-loop μ-loop
 loop-holds c =
@@ -37,9 +37,11 @@ paint-requires c κs =
     let W = s .pre .1 .1 .0 in
     let L = loop-at .loop in
     let I = L .inv in
-    let D = drawable-later (a .context) _ _ (a .source .now) (a .workspace .now) (L .workspace) (a .pairs .now) (I .2) (s .pre .0 .0) in
-    let high : L .y < a .context .h = omega (arith, loop-test-at .loop-test .taken, W .0 .bottom) in
-    ((D, record { high = high; order = W .1; wide = W .0 .right }, s .pre .0 .1), (s .pre .1 .0, ((I .3, I .4), (I .5, I .6))))
+    let D = drawable-later (a .pairing .context) _ _ (a .source .now) (a .workspace .now) (L .workspace) (a .pairs .now) (I .2) (s .pre .0 .0) in
+    let high : L .y < a .pairing .context .h = omega (arith, loop-test-at .loop-test .taken, W .0 .bottom) in (
+      (D, s .pre .0 .1),
+      ((s .pre .1 .0 .0, s .pre .1 .0 .1, record { high = high; order = W .1; wide = W .0 .right }), ((I .3, I .4), (I .5, I .6))),
+    )
 
 add-y : tie.Need-add-y Inv-loop μ-loop
 add-y c =
@@ -60,18 +62,18 @@ loop-again c =
     let W = s .pre .1 .1 .0 in
     let L = loop-at .loop in
     let I = L .inv in
-    let one = input-later (a .context) _ _ (a .source .now) (a .workspace .now) (L .workspace) (I .2) (a .pairing .i) (s .pre .1 .0 .0) in
-    let two = input-later (a .context) _ _ (a .source .now) (a .workspace .now) (L .workspace) (I .2) (a .pairing .j) (s .pre .1 .0 .1) in
-    let high : L .y < a .context .h = omega (arith, loop-test-at .loop-test .taken, W .0 .bottom) in (
+    let one = input-later (a .pairing .context) _ _ (a .source .now) (a .workspace .now) (L .workspace) (I .2) (a .pairing .i) (s .pre .1 .0 .0) in
+    let two = input-later (a .pairing .context) _ _ (a .source .now) (a .workspace .now) (L .workspace) (I .2) (a .pairing .j) (s .pre .1 .0 .1) in
+    let high : L .y < a .pairing .context .h = omega (arith, loop-test-at .loop-test .taken, W .0 .bottom) in (
       omega (arith, I .0),
       omega (arith, loop-test-at .loop-test .taken, I .1),
       drawn-more _ _ _ _ _ _ _ _ _ _ _ (I .2)
-          (painted-as _ _ _ _ _ _ _ (λ x l m. ap₂ (λ (p q : Picture). worked (a .pairing .method) (p x (L .y)) (q x (L .y))) one two) (paint-at .paint .ensures))
+          (painted-as _ _ _ _ _ _ _ (λ x l m. ap₂ (λ (p q : Picture). byMethod (a .pairing .method) (p x (L .y)) (q x (L .y))) one two) (paint-at .paint .ensures))
           (I .0) (W .1) (W .0 .right) high,
-      paint-at .paint .kept .1 .1 .1 .1 .1 .1 .1 .0 ∙ I .3,
-      paint-at .paint .kept .1 .1 .1 .1 .1 .1 .1 .1 .0 ∙ I .4,
-      paint-at .paint .kept .1 .1 .1 .1 .1 .1 .1 .1 .1 .0 ∙ I .5,
-      paint-at .paint .kept .1 .1 .1 .1 .1 .1 .1 .1 .1 .1 .0 ∙ I .6,
+      paint-at .paint .kept .1 .1 .1 .1 .1 .1 .0 ∙ I .3,
+      paint-at .paint .kept .1 .1 .1 .1 .1 .1 .1 .0 ∙ I .4,
+      paint-at .paint .kept .1 .1 .1 .1 .1 .1 .1 .1 .0 ∙ I .5,
+      paint-at .paint .kept .1 .1 .1 .1 .1 .1 .1 .1 .1 .0 ∙ I .6,
     )
 
 same-length : tie.Need-same-length Inv-loop μ-loop

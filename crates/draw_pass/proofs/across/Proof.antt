@@ -1,6 +1,6 @@
 -- `draw_pass::across` meets its contract, kind by kind. Assumes nothing.
 use borrow.Author.Needs.{needs}
-use Rattle.draw_pass.specs.Rules.{ruleOf}
+use Rattle.draw_pass.specs.PassRule.{ruleOf}
 use Rattle.draw_pass.proofs.across.Statement.{statement}
 use Rattle.draw_pass.proofs.across.Tie as tie
 

@@ -5,8 +5,8 @@ use mathlib.Core.Path.{sym}
 use native.Mathlib.Omega.{arith}
 use borrow.Author.Needs.{needs}
 use Rattle.window.specs.Limits.{longestRow}
-use Rattle.stage.proofs.Rows.{drawn-none}
-use Rattle.stage.proofs.LoadedRows.{prefix-long}
+use Rattle.buffers.proofs.DrawnRows.{drawn-none}
+use Rattle.buffers.proofs.LoadedRows.{prefix-long}
 use Rattle.draw_point.proofs.draw_rows.Statement.{statement}
 use Rattle.draw_point.proofs.draw_rows.Tie as tie
 

@@ -1,9 +1,9 @@
 -- `draw_point::paint` meets its contract: the row of the shape that is known. Assumes nothing.
 use borrow.Author.Needs.{needs}
 use Rattle.filter.specs.Kinds.{workOf}
-use Rattle.stage.proofs.Sizes.{sized-canvas}
+use Rattle.buffers.proofs.RowsFit.{sized-limits}
 use Rattle.draw_point.specs.Kindless.{Kindless}
-use Rattle.draw_point.proofs.Shapes.{workable-known, kindless-known, drawn-known}
+use Rattle.draw_point.proofs.KindlessShapes.{workable-known, kindless-known, drawn-known}
 use Rattle.draw_point.proofs.paint.Statement.{statement}
 use Rattle.draw_point.proofs.paint.Tie as tie
 
@@ -15,7 +15,7 @@ paint-flood-requires c κs =
     let shape-at = c .before .before in
     let s = shape-at .before .before .before .before .before .before .before .before in
     let D = s .pre .0 .0 .drawable .readable .sized in
-    (sized-canvas (s .args .context) _ _ D, D .workspace, s .pre .0 .2)
+    (sized-limits (s .args .context) _ _ D, D .workspace, s .pre .0 .2)
 
 enum-known-shape-2 : tie.Need-enum-known-shape-2
 enum-known-shape-2 c = search needs

@@ -4,11 +4,11 @@ use Prim.Native.Nat.{_-_, _≤_, _<_, max}
 use mathlib.Core.Path.{sym, _∙_}
 use native.Mathlib.Omega.{arith}
 use borrow.Author.Needs.{needs}
-use Rattle.stage.specs.Drawn.{band}
-use Rattle.stage.proofs.Rows.{drawn-none, drawn-as, drawn-more}
+use Rattle.buffers.specs.Drawn.{band}
+use Rattle.buffers.proofs.DrawnRows.{drawn-none, drawn-as, drawn-more}
 use Rattle.draw_point.specs.Kindless.{ShapeDrawn}
-use Rattle.draw_point.specs.Row.{WorkRow}
-use Rattle.draw_point.proofs.Shapes.{workable-later, row-later}
+use Rattle.draw_point.specs.RowDrawn.{WorkRow}
+use Rattle.draw_point.proofs.KindlessShapes.{workable-later, row-later}
 use Rattle.draw_point.proofs.paint_rows.Statement.{statement}
 use Rattle.draw_point.proofs.paint_rows.Tie as tie
 

@@ -63,7 +63,7 @@ use Rattle.checks.proofs.checks.check_next as check-next
 use Rattle.checks.proofs.checks.check_next.Symbol as check-next-def
 use Rattle.checks.proofs.checks.check_next.Symbol.{name as #checks·check-next}
 use Rattle.checks.proofs.checks.check_next.Met as check-next-thm
-use Rattle.layers.proofs.Answered.{Answered, answered-none, answered-more}
+use Rattle.layers.proofs.AnswerSoFar.{Answered, answered-none, answered-more}
 use Rattle.layers.proofs.check_steps.Key.{name as #layers·check-steps}
 use Rattle.layers.proofs.check_steps as check′
 use Rattle.layers.proofs.check_steps.Statement as stated

@@ -66,18 +66,18 @@ use Rattle.text.proofs.Form as F
 use Rattle.text.proofs.Form.Laws as F′
 use Rattle.text.proofs.Reading as R
 use Rattle.text.proofs.Reading.Laws as R′
-use Rattle.render.specs.declared.Redrawn.{Redrawn}
+use Rattle.render.specs.declared.Outcome.{Outcome}
 use Rattle.layers.specs.Given.{giving}
-use Rattle.render.specs.Promise.{answered, asNumber, asPlace, worked, ifDrawn, ifAccepted, zeros, RedrawsFor, ValidFor}
-use Rattle.render.proofs.Redrawn as Y
-use Rattle.render.proofs.Redrawn.Laws as Y′
+use Rattle.render.specs.Promise.{answered, asNumber, asPlace, pixelsWorked, ifDrawn, ifAccepted, zeros, RedrawsFor, ValidFor}
+use Rattle.render.proofs.Outcome as Y
+use Rattle.render.proofs.Outcome.Laws as Y′
 use Rattle.lent.proofs.Own.{arrTy, array-out, array-room}
 use Rattle.lent.proofs.SaysAnd.{says-all}
-use Rattle.lines.specs.declared.Drawn as D″
+use Rattle.lines.specs.declared.LinesDrawn as D″
 use Rattle.lines.specs.Lines.{readingIn, listIn}
-use Rattle.lines.proofs.Drawn as Z
-use Rattle.lines.proofs.Drawn.Laws as Z′
-use Rattle.lines.proofs.Kept.{both, sheetOf, Promises, Promised, Drew, promised}
+use Rattle.lines.proofs.LinesDrawn as Z
+use Rattle.lines.proofs.LinesDrawn.Laws as Z′
+use Rattle.lines.proofs.LinePromises.{both, sheetOf, Promises, Promised, Drew, promised}
 use Rattle.lent.proofs.blanks as blanks
 use Rattle.lent.proofs.blanks.Symbol as blanks-def
 use Rattle.lent.proofs.blanks.Symbol.{name as #blanks}
@@ -108,7 +108,7 @@ abbrev Sheet : Type 0
 Sheet = H′.Sheet
 
 abbrev Drawn : Type 0
-Drawn = D″.Drawn
+Drawn = D″.LinesDrawn
 
 abbrev stayed : Stays (lines′.ended .signature .params) (lines′.ended .kept)
 stayed = (
@@ -158,7 +158,7 @@ module _ {M : Type 1} (𝓤 : URA M) (H : Heap 𝓤) (A : Atoms 𝓤) (at-mem : 
   sheets-say : (r : Reading) (w h : ℕ) (o : Sheet) → ent 𝓤 (ensured 𝓤 H A sheets.ended (sheets.clauses 𝓤 H A at-mem run) tt (r, (w, (h, tt))) tt o) (fact 𝓤 (o ≡ sheetOf r w h))
   sheets-say r w h o = exE 𝓤 _ (λ ws. snd∗ 𝓤 (sem 𝓤 H A (lasts sheets.ended tt (r, (w, (h, tt))) ws)) (fact 𝓤 (o ≡ sheetOf r w h)))
 
-  tells-say : (r : Reading) (y : Redrawn) (o : Drawn) → ent 𝓤 (ensured 𝓤 H A tells.ended (tells.clauses 𝓤 H A at-mem run) tt (r, (y, tt)) tt o) (fact 𝓤 (o ≡ both r y))
+  tells-say : (r : Reading) (y : Outcome) (o : Drawn) → ent 𝓤 (ensured 𝓤 H A tells.ended (tells.clauses 𝓤 H A at-mem run) tt (r, (y, tt)) tt o) (fact 𝓤 (o ≡ both r y))
   tells-say r y o = exE 𝓤 _ (λ ws. snd∗ 𝓤 (sem 𝓤 H A (lasts tells.ended tt (r, (y, tt)) ws)) (fact 𝓤 (o ≡ both r y)))
 
 module _ {M : Type 1} (𝓤 : URA M) (H : Heap 𝓤) (A : Atoms 𝓤) (W : Given 𝓤 H A) (at-mem : Memory → SProp 𝓤) (run : Routine → Fun 𝓤) (κ κ₁ κ₂ κ₃ : Lft) (q q₁ q₂ q₃ : Share) (b o : ℕ) (γ : GName) (b₁ o₁ : ℕ) (γ₁ : GName) (b₂ o₂ : ℕ) (γ₂ : GName) (b₃ o₃ : ℕ) (γ₃ : GName)
@@ -237,10 +237,10 @@ module _ {M : Type 1} (𝓤 : URA M) (H : Heap 𝓤) (A : Atoms 𝓤) (W : Given
     goes-sheet : ent 𝓤 (emp 𝓤) (Sheets 𝓤 H A at-mem run .pre to-sheet)
     goes-sheet = qed W [] ∵ nothing ! $ owned ! usize (Is usize) (uint-makes 𝓤 H A W w64) high _ (refl, fh) $ fjoin ! $ owned ! usize (Is usize) (uint-makes 𝓤 H A W w64) wide _ (refl, fw) $ fjoin ! $ owned ! R.the-row (Is R.the-row) (LL.makes R.the-type R′.the-plain 𝓤 H A) r _ ir $ fjoin ! $ nothing ! $ join ! $ frame ! $ done !
 
-    abbrev to-tell : (y : Redrawn) → Val → Tells 𝓤 H A at-mem run .Ghost
+    abbrev to-tell : (y : Outcome) → Val → Tells 𝓤 H A at-mem run .Ghost
     to-tell y z = ((tt, tt, tt, (r, (y, tt)), (v ∷ [], (z ∷ [], tt))), tt)
 
-    goes-tell : (y : Redrawn) (z : Val) → Is Y.the-row y (z ∷ []) → ent 𝓤 (emp 𝓤) (Tells 𝓤 H A at-mem run .pre (to-tell y z))
+    goes-tell : (y : Outcome) (z : Val) → Is Y.the-row y (z ∷ []) → ent 𝓤 (emp 𝓤) (Tells 𝓤 H A at-mem run .pre (to-tell y z))
     goes-tell y z iy = qed W [] ∵ nothing ! $ owned ! Y.the-row (Is Y.the-row) (LL.makes Y.the-type Y′.the-plain 𝓤 H A) y _ iy $ fjoin ! $ owned ! R.the-row (Is R.the-row) (LL.makes R.the-type R′.the-plain 𝓤 H A) r _ ir $ fjoin ! $ nothing ! $ join ! $ frame ! $ done !
 
   -- the list at the local l, lent for ν under the name δ
@@ -349,7 +349,7 @@ module _ {M : Type 1} (𝓤 : URA M) (H : Heap 𝓤) (A : Atoms 𝓤) (W : Given
       holds t l v = ‵ (fat fullShare t l 0 v)
 
       -- the answer, and the end
-      telling : (r : Reading) (v : Val) (ir : Is R.the-row r (v ∷ [])) (k : Sheet) (vh : Val) (y : Redrawn) (z : Val) (iy : Is Y.the-row y (z ∷ [])) (zs : List Step) (w c : List ℕ) → length w ≡ length ws → length c ≡ length sc
+      telling : (r : Reading) (v : Val) (ir : Is R.the-row r (v ∷ [])) (k : Sheet) (vh : Val) (y : Outcome) (z : Val) (iy : Is Y.the-row y (z ∷ [])) (zs : List Step) (w c : List ℕ) → length w ≡ length ws → length c ≡ length sc
           → r ≡ readingIn form s → zs ≡ listIn form s → k ≡ sheetOf r wide high → Drew form s call wide high src ws sc w c y k zs
           → Sq W (Done w c (After (holds R′.mir l₁₀ v) (holds Y′.mir l₁₁ z) (holds S′.mir l₁₅ vh) (‵ (froom arrTy l₉ 0) ∷ ‵ (fdies arrTy l₉) ∷ Before))) (runs C Λ En mir.t-14 (atRet En Post))
       telling r v ir k vh y z iy zs w c ew ec er ez ek D =
@@ -377,12 +377,12 @@ module _ {M : Type 1} (𝓤 : URA M) (H : Heap 𝓤) (A : Atoms 𝓤) (W : Given
           move ! (5 ∷ []) $ use1 W (‵ Src ⊛ ‵ Src) (shr-slice-copy 𝓤 H A W (named 1) κ₁ u8 .twice xs (vs ∷ [])) $ split ! $
           move ! (8 ∷ 10 ∷ []) $ fjoin ! $ move ! (1 ∷ 0 ∷ []) $ fjoin ! $ move ! (2 ∷ 0 ∷ []) $ fjoin ! $ move ! (8 ∷ 0 ∷ []) $ fjoin ! $ move ! (7 ∷ 0 ∷ []) $ fjoin ! $ move ! (6 ∷ 0 ∷ []) $ fjoin ! $ move ! (3 ∷ 0 ∷ []) $ fjoin ! $ use1 W (raw (Draw 𝓤 H A at-mem run .pre (to-draw l₉ ν δ zs k vh ik))) (goes-draw l₉ ν δ zs k vh ik) $
           calls-at ! fm (Draw 𝓤 H A at-mem run) known₄ (to-draw l₉ ν δ zs k vh ik) (and-then ! (load ! (from ! (stop !)) (look ! 40 refl)) (and-then ! (load ! (from ! (stop !)) (look ! 17 refl)) (and-then ! (load ! (from ! (stop !)) (look ! 13 refl)) (and-then ! (load ! (from ! (stop !)) (look ! 34 refl)) (and-then ! (load ! (from ! (stop !)) (look ! 9 refl)) (and-then ! (load ! (from ! (stop !)) (look ! 5 refl)) (no-more !))))))) (λ z.
-          use1 W (later (some (λ (y : Redrawn). ((‵ (flft (ν ∷ []) fullShare) ⊛ ‵ (flft κ₁ q₁) ⊛ ‵ (flft κ₂ q₂) ⊛ ‵ (flft κ₃ q₃) ⊛ ‵ ftrue) ⊛ ‵ (Y.the-row .own y (z ∷ []))) ⊛ raw (ensured 𝓤 H A draws.ended (draws.clauses 𝓤 H A at-mem run) (ν ∷ [], (κ₁, (κ₂, (κ₃, tt)))) (args-draw l₉ ν δ zs k vh ik) tt y)))) (id⊢ 𝓤 _) $ await ! tt $ pick ! (λ y. split ! $ move ! (1 ∷ []) $
+          use1 W (later (some (λ (y : Outcome). ((‵ (flft (ν ∷ []) fullShare) ⊛ ‵ (flft κ₁ q₁) ⊛ ‵ (flft κ₂ q₂) ⊛ ‵ (flft κ₃ q₃) ⊛ ‵ ftrue) ⊛ ‵ (Y.the-row .own y (z ∷ []))) ⊛ raw (ensured 𝓤 H A draws.ended (draws.clauses 𝓤 H A at-mem run) (ν ∷ [], (κ₁, (κ₂, (κ₃, tt)))) (args-draw l₉ ν δ zs k vh ik) tt y)))) (id⊢ 𝓤 _) $ await ! tt $ pick ! (λ y. split ! $ move ! (1 ∷ []) $
           use1 W (some (λ (ls : Lasts draws.ended (ν ∷ [], (κ₁, (κ₂, (κ₃, tt)))) (args-draw l₉ ν δ zs k vh ik)). ‵ (lasts draws.ended (ν ∷ [], (κ₁, (κ₂, (κ₃, tt)))) (args-draw l₉ ν δ zs k vh ik) ls)
           ⊛ raw (fact 𝓤 (y .answer ≡ answered (giving call k zs src ws sc)))
           ⊛ raw (fact 𝓤 (numberOf (y .answer) ≡ asNumber (giving call k zs src ws sc)))
           ⊛ raw (fact 𝓤 (placeOf (y .answer) ≡ asPlace (giving call k zs src ws sc)))
-          ⊛ raw (fact 𝓤 (y .count ≡ worked (y .answer) call k zs))
+          ⊛ raw (fact 𝓤 (y .count ≡ pixelsWorked (y .answer) call k zs))
           ⊛ raw (fact 𝓤 (ls .1 .1 .1 .1 .0 ≡ ifDrawn (y .answer) (giving call k zs src ws sc)))
           ⊛ raw (fact 𝓤 (ls .1 .1 .1 .1 .1 .0 ≡ ifAccepted (y .answer) (zeros sc) sc))
           ⊛ raw (fact 𝓤 (RedrawsFor (y .answer) (giving call k zs src ws sc) (ls .1 .1 .1 .1 .0)))
@@ -390,7 +390,7 @@ module _ {M : Type 1} (𝓤 : URA M) (H : Heap 𝓤) (A : Atoms 𝓤) (W : Given
           heard ! (y .answer ≡ answered (giving call k zs src ws sc)) (λ fa. split ! $
           heard ! (numberOf (y .answer) ≡ asNumber (giving call k zs src ws sc)) (λ fn. split ! $
           heard ! (placeOf (y .answer) ≡ asPlace (giving call k zs src ws sc)) (λ fp. split ! $
-          heard ! (y .count ≡ worked (y .answer) call k zs) (λ fk. split ! $
+          heard ! (y .count ≡ pixelsWorked (y .answer) call k zs) (λ fk. split ! $
           heard ! (ls .1 .1 .1 .1 .0 ≡ ifDrawn (y .answer) (giving call k zs src ws sc)) (λ fl. split ! $
           heard ! (ls .1 .1 .1 .1 .1 .0 ≡ ifAccepted (y .answer) (zeros sc) sc) (λ fz. split ! $
           heard ! (RedrawsFor (y .answer) (giving call k zs src ws sc) (ls .1 .1 .1 .1 .0)) (λ fr.

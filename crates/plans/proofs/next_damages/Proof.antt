@@ -8,9 +8,9 @@ use Rattle.filter.specs.declared.Input.the-variants.{Source}
 use Rattle.filter.specs.declared.Rect.{Rect}
 use Rattle.filter.specs.Limits.{longestSide}
 use Rattle.filter.specs.Answers.{accepted?}
-use Rattle.damage.specs.Damage.{rectOf, AllWithin}
+use Rattle.damage.specs.InputRects.{rectOf, AllWithin}
 use Rattle.checks.proofs.Acceptance.{accepted-step}
-use Rattle.damage.proofs.Damaged.{within-more}
+use Rattle.damage.proofs.DamagesSoFar.{within-more}
 use Rattle.plans.proofs.Rects.{more-within}
 use borrow.Author.Needs.{needs}
 use Rattle.plans.proofs.next_damages.Statement.{statement}
@@ -58,9 +58,9 @@ returns-2 c =
     let D = c .before .damage-of in
     let E = c .with-rect .ensures in
     let z = within-more (a .w) (a .h) (D .result) (s .pre .0 .1) (s .pre .0 .2) (D .ensures .1) in (
-      omega (arith, E .1, E .2, s .pre .0 .3),
-      ap length (E .0) ∙ length-set (a .damages .rects) (a .n) (D .result) ∙ s .pre .1 .0,
-      rw (E .0) (more-within longestSide longestSide (a .named) (s .pre .1 .1 .each Source) (a .n) (D .result) (a .damages .rects) (omega (arith, s .pre .0 .0, s .pre .1 .0)) z (s .pre .1 .1)),
+      omega (arith, E .count, E .small, s .pre .0 .3),
+      ap length (E .rects) ∙ length-set (a .damages .rects) (a .n) (D .result) ∙ s .pre .1 .0,
+      rw (E .rects) (more-within longestSide longestSide (a .changed) (s .pre .1 .1 .each Source) (a .n) (D .result) (a .damages .rects) (omega (arith, s .pre .0 .0, s .pre .1 .0)) z (s .pre .1 .1)),
     )
 
 pub next-damages-spec : {M : Type 1} → statement M

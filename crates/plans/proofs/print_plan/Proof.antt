@@ -5,7 +5,7 @@ use native.Mathlib.Omega.{arith}
 use borrow.Author.Needs.{needs}
 use Rattle.filter.specs.Answers.{accepted?}
 use Rattle.filter.specs.Checks.{orElse}
-use Rattle.filter.proofs.Refusals.{else-accepted}
+use Rattle.filter.proofs.PassedChecks.{else-accepted}
 use Rattle.checks.proofs.Acceptance.{accepted-sizes, accepted-rectangle}
 use Rattle.plans.proofs.print_plan.Statement.{statement}
 use Rattle.plans.proofs.print_plan.Tie as tie
@@ -31,7 +31,7 @@ bounds-requires c κs =
     let a = c .before .before .before .before .check-canvas in
     let b = c .before .before .before .check-rectangle in
     let all : accepted? (orElse (a .result) (b .result)) ≡ true = sym (ap accepted? (c .before .before .first .ensures)) ∙ sym (c .before .is-accepted .ensures) ∙ c .if2 .taken in
-    let g = accepted-rectangle (s .args .w) (s .args .h) (s .args .named) (rw (b .ensures) at (else-accepted (a .result) (b .result) all .1)) in
+    let g = accepted-rectangle (s .args .w) (s .args .h) (s .args .changed) (rw (b .ensures) at (else-accepted (a .result) (b .result) all .1)) in
     (omega (arith, g .right, s .pre .0), omega (arith, g .bottom, s .pre .1))
 
 print-steps-requires : tie.Need-print-steps-requires
@@ -41,7 +41,7 @@ print-steps-requires c κs =
     let b = c .before .before .before .before .check-rectangle in
     let all : accepted? (orElse (a .result) (b .result)) ≡ true = sym (ap accepted? (c .before .before .before .first .ensures)) ∙ sym (c .before .before .is-accepted .ensures) ∙ c .before .if2 .taken in
     let t = else-accepted (a .result) (b .result) all in
-    let g = accepted-rectangle (s .args .w) (s .args .h) (s .args .named) (rw (b .ensures) at (t .1)) in
+    let g = accepted-rectangle (s .args .w) (s .args .h) (s .args .changed) (rw (b .ensures) at (t .1)) in
     let z = accepted-sizes (s .args .w) (s .args .h) (s .args .count) _ _ _ (rw (a .ensures) at (t .0)) in
     (z .canvas .wide, z .canvas .high, z .few, rw (c .bounds .ensures) record { right = omega (arith, g .right, z .canvas .wide); bottom = omega (arith, g .bottom, z .canvas .high) })
 

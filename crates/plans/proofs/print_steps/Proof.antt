@@ -7,17 +7,17 @@ use borrow.Author.Needs.{needs}
 use Rattle.filter.specs.declared.Rect.{Rect}
 use Rattle.filter.specs.Rect.{empty}
 use Rattle.filter.specs.Limits.{longestSide, mostPixels, mostSteps}
-use Rattle.damage.specs.Damage.{AllWithin}
+use Rattle.damage.specs.InputRects.{AllWithin}
 use Rattle.plans.proofs.Rects.{none-within}
 use Rattle.plans.proofs.print_steps.Statement.{statement}
 use Rattle.plans.proofs.print_steps.Tie as tie
 
 abbrev Inv-loop : tie.InvT-loop
-Inv-loop w h named lines count answer₀ damages₀ at₀ n₀ answer damages at n =
-    (n ≤ count) × (at ≤ length lines) × (damages .count ≤ n * mostPixels) × (length (damages .rects) ≡ mostSteps) × AllWithin longestSide longestSide named (damages .rects)
+Inv-loop w h changed lines count answer₀ damages₀ at₀ n₀ answer damages at n =
+    (n ≤ count) × (at ≤ length lines) × (damages .count ≤ n * mostPixels) × (length (damages .rects) ≡ mostSteps) × AllWithin longestSide longestSide changed (damages .rects)
 
 abbrev μ-loop : tie.MeasureT-loop
-μ-loop w h named lines count answer₀ damages₀ at₀ n₀ answer damages at n = count - n
+μ-loop w h changed lines count answer₀ damages₀ at₀ n₀ answer damages at n = count - n
 
 none-so-far-requires : tie.Need-none-so-far-requires Inv-loop μ-loop
 none-so-far-requires c κs = search needs
@@ -26,7 +26,7 @@ loop-holds : tie.Need-loop-holds Inv-loop μ-loop
 loop-holds c =
     let s = c .before .before in
     let e = c .none-so-far .ensures in
-    (omega arith, omega arith, omega (arith, e .1), ap length (e .0) ∙ length-replicate {A = Rect} mostSteps empty, none-within longestSide longestSide (s .args .named) (s .pre .3) mostSteps (c .none-so-far .result .rects) (e .0))
+    (omega arith, omega arith, omega (arith, e .1), ap length (e .0) ∙ length-replicate {A = Rect} mostSteps empty, none-within longestSide longestSide (s .args .changed) (s .pre .3) mostSteps (c .none-so-far .result .rects) (e .0))
 
 find-requires : tie.Need-find-requires Inv-loop μ-loop
 find-requires c κs = search needs

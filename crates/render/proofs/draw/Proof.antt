@@ -64,14 +64,14 @@ use Rattle.lent.proofs.Again.{LentAgain, lends-again, comes-back}
 use Rattle.lent.proofs.SaysAnd.{says-all}
 use Rattle.layers.specs.Given.{giving}
 use Rattle.layers.specs.Drawing.{ReadyFor, Drawing}
-use Rattle.render.specs.declared.Redrawn.{Redrawn}
+use Rattle.render.specs.declared.Outcome.{Outcome}
 use Rattle.render.specs.Promise.{taken, answered, ifAccepted, zeros}
 use Rattle.render.specs.Code.{usableOf, settled, AllBytes}
-use Rattle.render.proofs.Redrawn as Z
-use Rattle.render.proofs.Redrawn.Laws as Z′
-use Rattle.render.proofs.Verdicts.{settled-answer}
-use Rattle.render.proofs.Passed.{all-used, ready-for, usable-le}
-use Rattle.render.proofs.Kept.{Promises, Promised, promised, with}
+use Rattle.render.proofs.Outcome as Z
+use Rattle.render.proofs.Outcome.Laws as Z′
+use Rattle.render.proofs.RefusalOrder.{settled-answer}
+use Rattle.render.proofs.AcceptedIsReady.{all-used, ready-for, usable-le}
+use Rattle.render.proofs.PromisesKept.{Promises, Promised, promised, with}
 use Rattle.window.proofs.lesser as lesser
 use Rattle.window.proofs.lesser.Symbol as lesser-def
 use Rattle.window.proofs.lesser.Symbol.{name as #lesser}
@@ -220,7 +220,7 @@ module _ {M : Type 1} (𝓤 : URA M) (H : Heap 𝓤) (A : Atoms 𝓤) (W : Given
   abbrev answer : Answer
   answer = answered (giving call sh ys src ws sc)
 
-  exits : (r : Redrawn) (v : Val) (w c : List ℕ) → Is Z.the-row r (v ∷ []) → length w ≡ length ws → length c ≡ length sc → Promised (giving call sh ys src ws sc) r w c
+  exits : (r : Outcome) (v : Val) (w c : List ℕ) → Is Z.the-row r (v ∷ []) → length w ≡ length ws → length c ≡ length sc → Promised (giving call sh ys src ws sc) r w c
       → ent 𝓤 (⋆ 𝓤 H A (Tokens ∷ ‵ (finally u8 γ₃ c) ∷ ‵ (finally u8 γ₂ w) ∷ ‵ Src ∷ ‵ Steps ∷ [])) (Post v)
   exits r v w c ir ew ec f =
       qed W (Tokens ∷ ‵ (finally u8 γ₃ c) ∷ ‵ (finally u8 γ₂ w) ∷ ‵ Src ∷ ‵ Steps ∷ []) ∵
@@ -317,8 +317,8 @@ module _ {M : Type 1} (𝓤 : URA M) (H : Heap 𝓤) (A : Atoms 𝓤) (W : Given
         qed W (‵ (fsep (flft κ₃ q₃) (Sc κ₃ γ₃ c)) ∷ []) ∵ fsplit ! $ nothing ! $ move ! (2 ∷ 0 ∷ []) $ fjoin ! $ owned ! D.the-row (Is D.the-row) (LL.makes D.the-type D′.the-plain 𝓤 H A) d _ id $ fjoin ! $ owned ! Q.the-row (Is Q.the-row) (EL.makes Q.the-type Q′.the-plain 𝓤 H A) a _ ia $ fjoin ! $ nothing ! $ move ! (2 ∷ 0 ∷ []) $ join ! $ join ! $ frame ! $ done !
 
     -- what `finish` says
-    abbrev Cleared : List ℕ → Type 0
-    Cleared c′ = c′ ≡ ifAccepted a (zeros c) c
+    abbrev ClearedAround : List ℕ → Type 0
+    ClearedAround c′ = c′ ≡ ifAccepted a (zeros c) c
 
   module _ (𝓣 : Tables 𝓤 H) (fm : FmC 𝓤 H (W .laws) (𝓣 .C)) (known₁ : Triple 𝓤 (𝓣 .C #lesser) (Lesser 𝓤 H A mem run)) (known₂ : Triple 𝓤 (𝓣 .C #usable) (Usable 𝓤 H A mem run)) (known₃ : Triple 𝓤 (𝓣 .C #check) (Check 𝓤 H A mem run)) (known₄ : Triple 𝓤 (𝓣 .C #settle) (Settle 𝓤 H A mem run)) (known₅ : Triple 𝓤 (𝓣 .C #counted) (Counted 𝓤 H A mem run)) (known₆ : Triple 𝓤 (𝓣 .C #steps) (DrawSteps 𝓤 H A mem run)) (known₇ : Triple 𝓤 (𝓣 .C #finish) (Finish 𝓤 H A mem run))
       (gn : Room T.the-row (length ys)) (gs : Room u8 (length src)) (gw : Room u8 (length ws)) (gc : Room u8 (length sc)) where
@@ -382,9 +382,9 @@ module _ {M : Type 1} (𝓤 : URA M) (H : Heap 𝓤) (A : Atoms 𝓤) (W : Given
           assigns ! (agg ! (and-then ! (load ! (from ! (stop !)) (look ! 10 refl)) (and-then ! (load ! (from ! (fld ! refl (stop !))) (look-in ! 42 (sub ! 1 refl (whole !)))) (no-more !)))) (from ! (stop !)) (init ! 8 refl (tt, (tt, (record { fits = gc .0 }, tt)))) $
           move ! (7 ∷ 6 ∷ []) $ fjoin ! $ use1 W (raw (Finish 𝓤 H A mem run .pre (to-finish a v ia d u id c))) (goes-finish a v ia d u id c) $
           calls-at ! fm (Finish 𝓤 H A mem run) known₇ (to-finish a v ia d u id c) (and-then ! (load ! (from ! (stop !)) (look ! 33 refl)) (and-then ! (load ! (from ! (stop !)) (look ! 31 refl)) (and-then ! (load ! (from ! (stop !)) (look ! 7 refl)) (no-more !)))) (λ z.
-          use1 W (later (some (λ (r : Redrawn). ((‵ (flft κ₃ q₃) ⊛ ‵ ftrue) ⊛ ‵ (Z.the-row .own r (z ∷ []))) ⊛ raw (ensured 𝓤 H A finish.ended (finish.clauses 𝓤 H A mem run) (κ₃, tt) (args-finish a v ia d u id c) tt r)))) (id⊢ 𝓤 _) $ await ! tt $ pick ! (λ r. split ! $ move ! (1 ∷ []) $
-          use1 W (some (λ (ls : Lasts finish.ended (κ₃, tt) (args-finish a v ia d u id c)). ‵ (lasts finish.ended (κ₃, tt) (args-finish a v ia d u id c) ls) ⊛ raw (fact 𝓤 (r ≡ record { answer = a; count = d .count })) ⊛ raw (fact 𝓤 (Cleared a v ia d u id c (ls .1 .1 .0))))) (id⊢ 𝓤 _) $ pick ! (λ ls. split ! $ move ! (1 ∷ []) $ split ! $
-          heard ! (r ≡ record { answer = a; count = d .count }) (λ er. heard ! (Cleared a v ia d u id c (ls .1 .1 .0)) (λ ez. fsplit ! $ drop ! $ fsplit ! $ drop ! $ fsplit ! $ fsplit ! $ move ! (1 ∷ []) $ feqL ! (λ ec. move ! (2 ∷ []) $ split ! $ move ! (1 ∷ []) $ peeks ! Z.the-row (Is Z.the-row) (shows 𝓤 H A Z.the-row) r (z ∷ []) (λ ir. drop ! $
+          use1 W (later (some (λ (r : Outcome). ((‵ (flft κ₃ q₃) ⊛ ‵ ftrue) ⊛ ‵ (Z.the-row .own r (z ∷ []))) ⊛ raw (ensured 𝓤 H A finish.ended (finish.clauses 𝓤 H A mem run) (κ₃, tt) (args-finish a v ia d u id c) tt r)))) (id⊢ 𝓤 _) $ await ! tt $ pick ! (λ r. split ! $ move ! (1 ∷ []) $
+          use1 W (some (λ (ls : Lasts finish.ended (κ₃, tt) (args-finish a v ia d u id c)). ‵ (lasts finish.ended (κ₃, tt) (args-finish a v ia d u id c) ls) ⊛ raw (fact 𝓤 (r ≡ record { answer = a; count = d .count })) ⊛ raw (fact 𝓤 (ClearedAround a v ia d u id c (ls .1 .1 .0))))) (id⊢ 𝓤 _) $ pick ! (λ ls. split ! $ move ! (1 ∷ []) $ split ! $
+          heard ! (r ≡ record { answer = a; count = d .count }) (λ er. heard ! (ClearedAround a v ia d u id c (ls .1 .1 .0)) (λ ez. fsplit ! $ drop ! $ fsplit ! $ drop ! $ fsplit ! $ fsplit ! $ move ! (1 ∷ []) $ feqL ! (λ ec. move ! (2 ∷ []) $ split ! $ move ! (1 ∷ []) $ peeks ! Z.the-row (Is Z.the-row) (shows 𝓤 H A Z.the-row) r (z ∷ []) (λ ir. drop ! $
           land ! (from ! (stop !)) (init ! 55 refl (LL.lawful Z.the-type Z′.the-laws 𝓤 H A W .typed r _ ir .0)) $ returns ! (look ! 55 refl) $ forget ! 9 refl $ forget ! 11 refl $ forget ! 33 refl $ forget ! 35 refl $ forget ! 37 refl $ forget ! 39 refl $ forget ! 41 refl $ forget ! 21 refl $ forget ! 43 refl $ forget ! 45 refl $ forget ! 47 refl $ forget ! 49 refl $ forget ! 51 refl $ forget ! 53 refl $ forget ! 55 refl $
           move ! (55 ∷ 56 ∷ []) $ free1 ! $ move ! (53 ∷ 54 ∷ []) $ free1 ! $ move ! (51 ∷ 52 ∷ []) $ free1 ! $ move ! (49 ∷ 50 ∷ []) $ free1 ! $ move ! (47 ∷ 48 ∷ []) $ free1 ! $ move ! (45 ∷ 46 ∷ []) $ free1 ! $ move ! (43 ∷ 44 ∷ []) $ free1 ! $ move ! (41 ∷ 42 ∷ []) $ free1 ! $ move ! (39 ∷ 40 ∷ []) $ free1 ! $ move ! (37 ∷ 38 ∷ []) $ free1 ! $ move ! (35 ∷ 36 ∷ []) $ free1 ! $ move ! (33 ∷ 34 ∷ []) $ free1 ! $ move ! (31 ∷ 32 ∷ []) $ free1 ! $ move ! (29 ∷ 30 ∷ []) $ free1 ! $ move ! (27 ∷ 28 ∷ []) $ free1 ! $ move ! (25 ∷ 26 ∷ []) $ free1 ! $ move ! (23 ∷ 24 ∷ []) $ free1 ! $ move ! (21 ∷ 22 ∷ []) $ free1 ! $ move ! (19 ∷ 20 ∷ []) $ free1 ! $ move ! (17 ∷ 18 ∷ []) $ free1 ! $ move ! (15 ∷ 16 ∷ []) $ free1 ! $ move ! (13 ∷ 14 ∷ []) $ free1 ! $ move ! (11 ∷ 12 ∷ []) $ free1 ! $ move ! (9 ∷ 10 ∷ []) $ free1 ! $ free0 ! $
           split ! $ join ! $ move ! (8 ∷ 0 ∷ []) $ join ! $ move ! (6 ∷ 0 ∷ []) $ join ! $ move ! (4 ∷ 0 ∷ []) $ join ! $ keep ! (0 ∷ 1 ∷ 5 ∷ 4 ∷ 3 ∷ []) $

@@ -5,7 +5,7 @@ use lib.Seq.{length-take-le}
 use borrow.Author.Needs.{needs}
 use Rattle.text.specs.declared.Form.the-variants as F
 use Rattle.filter.specs.Limits.{mostSteps}
-use Rattle.text.proofs.Bounded.{reading-bounded}
+use Rattle.text.proofs.ReadingBounded.{reading-bounded}
 use Rattle.text_answer.proofs.Printed.{put-fits, printed-length, printed-stored, printed-kept}
 use Rattle.text_answer.proofs.answer.Statement.{statement}
 use Rattle.text_answer.proofs.answer.Tie as tie

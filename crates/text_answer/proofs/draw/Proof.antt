@@ -9,7 +9,7 @@ use Rattle.filter.specs.declared.Call.the-variants as C
 use Rattle.filter.specs.Limits.{textPicture}
 use Rattle.text.specs.declared.Form.the-variants as F
 use Rattle.lines.specs.Lines.{givingText, answerIn}
-use Rattle.text_answer.proofs.Rooms.{size-le, zeros-long, take-zeros}
+use Rattle.text_answer.proofs.BuffersSuffice.{size-le, zeros-long, take-zeros}
 use Rattle.text_answer.proofs.draw.Statement.{statement}
 use Rattle.text_answer.proofs.draw.Tie as tie
 

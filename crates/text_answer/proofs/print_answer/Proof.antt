@@ -2,8 +2,8 @@
 use mathlib.Core.Path.{sym, ap, _∙_}
 use borrow.Author.Needs.{needs}
 use Rattle.text_print.specs.Output.{inSrgb}
-use Rattle.text_print.proofs.Puts.{put-as}
-use Rattle.text_answer.proofs.Rooms.{ok-room, refused-room}
+use Rattle.text_print.proofs.PutTexts.{put-as}
+use Rattle.text_answer.proofs.BuffersSuffice.{ok-room, refused-room}
 use Rattle.text_answer.proofs.Printed.{answer-ok, answer-refused}
 use Rattle.text_answer.proofs.print_answer.Statement.{statement}
 use Rattle.text_answer.proofs.print_answer.Tie as tie

@@ -4,7 +4,7 @@ use Prim.Native.Nat.{ℕ, _*_}
 use lib.ListN.{length, length-replicate}
 use borrow.Author.Needs.{needs}
 use Rattle.filter.specs.Bytes.{size}
-use Rattle.text_print.proofs.Puts.{put-as}
+use Rattle.text_print.proofs.PutTexts.{put-as}
 use Rattle.text_answer.proofs.Printed.{drawn-some, drawn-text}
 use Rattle.text_answer.proofs.print_drawn.Statement.{statement}
 use Rattle.text_answer.proofs.print_drawn.Tie as tie

@@ -7,9 +7,9 @@ use lib.ListN.{take}
 use lib.Seq.{length-take-le}
 use borrow.Author.Needs.{needs}
 use Rattle.text.specs.declared.Reading.{Reading}
-use Rattle.text_print.proofs.Puts.{put-as}
+use Rattle.text_print.proofs.PutTexts.{put-as}
 use Rattle.text_answer.specs.Answer.{sheetText}
-use Rattle.text_answer.proofs.Rooms.{size-le}
+use Rattle.text_answer.proofs.BuffersSuffice.{size-le}
 use Rattle.text_answer.proofs.print_read.Statement.{statement}
 use Rattle.text_answer.proofs.print_read.Tie as tie
 

@@ -2,8 +2,8 @@
 use mathlib.Core.Path.{sym}
 use native.Mathlib.Omega.{arith}
 use borrow.Author.Needs.{needs}
-use Rattle.text_print.proofs.Puts.{put-as}
-use Rattle.text_answer.proofs.Rooms.{refused-room}
+use Rattle.text_print.proofs.PutTexts.{put-as}
+use Rattle.text_answer.proofs.BuffersSuffice.{refused-room}
 use Rattle.text_answer.proofs.Printed.{reading-line, reading-records, reading-done}
 use Rattle.text_answer.proofs.print_reading.Statement.{statement}
 use Rattle.text_answer.proofs.print_reading.Tie as tie

@@ -5,7 +5,7 @@ use native.Mathlib.Omega.{arith}
 use lib.ListN.{replicate}
 use borrow.Author.Needs.{needs}
 use Rattle.filter.specs.Limits.{mostSteps, textPicture}
-use Rattle.text_answer.proofs.Rooms.{size-le, layers-le, zeros-long, take-zeros}
+use Rattle.text_answer.proofs.BuffersSuffice.{size-le, layers-le, zeros-long, take-zeros}
 use Rattle.text_answer.proofs.print_sheet.Statement.{statement}
 use Rattle.text_answer.proofs.print_sheet.Tie as tie
 

@@ -1,6 +1,6 @@
 -- `checks::checks::check_next` meets its contract: a refusal stays. Assumes nothing.
 use borrow.Author.Needs.{needs}
-use Rattle.filter.proofs.Owned.{step-bytes}
+use Rattle.filter.proofs.TypeFacts.{step-bytes}
 use Rattle.checks.proofs.checks.check_next.Statement.{statement}
 use Rattle.checks.proofs.checks.check_next.Tie as tie
 

@@ -1,7 +1,7 @@
 -- `checks::checks::check_numbers` meets its contract: the loop keeps the first refusal so far. Assumes nothing.
 use Rattle.checks.proofs.AnswerLaws.{first-more}
 use Rattle.filter.specs.Checks.{firstOf, numberAnswer, numbersAnswer}
-use Rattle.filter.specs.Signature.{countOf, rangeIn}
+use Rattle.filter.specs.Signature.{numberCount, rangeIn}
 use Rattle.filter.specs.Steps.{numberAt}
 use Rattle.filter.specs.declared.Numbers.{Numbers}
 use Rattle.filter.specs.declared.Signature.{Signature}
@@ -71,7 +71,7 @@ returns c =
     let g = c .before .before .before .before .signature-of in
     let e : c .before .loop .i ≡ c .before .before .number-count .result = omega arith in
     c .before .loop .inv .1 ∙ ap (firstOf (answers (s .n) (g .result .numbers) (s .step))) (e ∙ c .before .before .number-count .ensures)
-    ∙ ap (λ (x : Signature). firstOf (answers (s .n) (x .numbers) (s .step)) (countOf (x .numbers))) (g .ensures)
+    ∙ ap (λ (x : Signature). firstOf (answers (s .n) (x .numbers) (s .step)) (numberCount (x .numbers))) (g .ensures)
 
 pub check-numbers-spec : {M : Type 1} → statement M
 check-numbers-spec =

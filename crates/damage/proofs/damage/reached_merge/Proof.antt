@@ -1,6 +1,6 @@
 -- `damage::damage::reached_merge` meets its contract: as many inputs as there are. Assumes nothing.
-use Rattle.damage.specs.Damage.{rectOf}
-use Rattle.damage.proofs.Damaged.{merge-reached}
+use Rattle.damage.specs.InputRects.{rectOf}
+use Rattle.damage.proofs.DamagesSoFar.{merge-reached}
 use borrow.Author.Needs.{needs}
 use Rattle.damage.proofs.damage.reached_merge.Statement.{statement}
 use Rattle.damage.proofs.damage.reached_merge.Tie as tie
@@ -24,7 +24,7 @@ returns : tie.Need-returns
 returns c =
     let s = c .before .before .before .before .before .args in
     let e = rw (c .before .before .before .before .none .ensures) at (c .before .before .before .join-input .ensures) in
-    merge-reached (s .n) (s .inputs) (rectOf (s .named) (s .rects)) _ _ _ _ e (c .before .before .join-input2 .ensures) (c .before .join-input3 .ensures) (c .join-input4 .ensures)
+    merge-reached (s .n) (s .inputs) (rectOf (s .changed) (s .rects)) _ _ _ _ e (c .before .before .join-input2 .ensures) (c .before .join-input3 .ensures) (c .join-input4 .ensures)
 
 pub reached-merge-spec : {M : Type 1} → statement M
 reached-merge-spec =

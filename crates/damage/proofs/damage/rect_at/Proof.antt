@@ -1,5 +1,5 @@
 -- `damage::damage::rect_at` meets its contract, input by input. Assumes nothing.
-use Rattle.damage.specs.Damage.{rectOf}
+use Rattle.damage.specs.InputRects.{rectOf}
 use borrow.Author.Needs.{needs}
 use Rattle.damage.proofs.damage.rect_at.Statement.{statement}
 use Rattle.damage.proofs.damage.rect_at.Tie as tie

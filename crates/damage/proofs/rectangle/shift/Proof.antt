@@ -1,5 +1,5 @@
 -- `damage::rectangle::shift` meets its contract, bound by bound. Assumes nothing.
-use Rattle.filter.proofs.Rects.{true-filled}
+use Rattle.filter.proofs.PlacesInRects.{true-filled}
 use Rattle.damage.proofs.RectLaws.{grow-moved, grow-none}
 use native.Mathlib.Omega.{arith}
 use mathlib.Core.Path.{sym, _∙_}

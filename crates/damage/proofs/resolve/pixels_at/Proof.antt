@@ -1,5 +1,5 @@
 -- `damage::resolve::pixels_at` meets its contract, pass by pass. Assumes nothing.
-use Rattle.filter.proofs.Ranges.{alike-range}
+use Rattle.filter.proofs.AllowedCoefficients.{alike-range}
 use Rattle.number.specs.declared.Range.{Range}
 use Rattle.number.specs.declared.Range.the-variants.{Deviation, Radius}
 use Rattle.number.specs.Number.{judged, fixedOf}

@@ -10,7 +10,7 @@ use Rattle.filter.specs.declared.Step.{Step}
 use Rattle.filter.specs.declared.Resolved.{Resolved}
 use Rattle.filter.specs.Kinds.{noValue}
 use Rattle.filter.specs.Limits.{mostNumbers}
-use Rattle.filter.specs.Signature.{countOf, rangeIn}
+use Rattle.filter.specs.Signature.{numberCount, rangeIn}
 use Rattle.filter.specs.Steps.{numberAt, listed, valuesOf}
 use mathlib.Core.Bool.{cond}
 use mathlib.Core.List.{List}
@@ -82,11 +82,11 @@ returns c =
     let l = k .before .before in
     let g = l .before .before .before .signature-of in
     let s = l .before .before .before .before .args .step in
-    let e : k .loop .i ≡ min (countOf (g .result .numbers)) mostNumbers = omega (arith, c .loop-test .left, k .loop .inv .0, l .lesser .ensures, l .before .number-count .ensures) in
-    let v = valued-all (units (g .result .numbers) s) (countOf (g .result .numbers)) (k .loop .i) _ e (k .loop .inv .1) in
+    let e : k .loop .i ≡ min (numberCount (g .result .numbers)) mostNumbers = omega (arith, c .loop-test .left, k .loop .inv .0, l .lesser .ensures, l .before .number-count .ensures) in
+    let v = valued-all (units (g .result .numbers) s) (numberCount (g .result .numbers)) (k .loop .i) _ e (k .loop .inv .1) in
     let made : Shape → List Fixed → Resolved = λ x y. record { shape = x; values = y } in
     ap₂ made (k .before .shape-of .ensures)
-    (v ∙ ap (λ (r : Signature). listed (λ i. cond (ltb i (countOf (r .numbers))) (units (r .numbers) s i) noValue) 0 mostNumbers) (g .ensures))
+    (v ∙ ap (λ (r : Signature). listed (λ i. cond (ltb i (numberCount (r .numbers))) (units (r .numbers) s i) noValue) 0 mostNumbers) (g .ensures))
 
 pub resolve-spec : {M : Type 1} → statement M
 resolve-spec =

@@ -5,7 +5,7 @@ use native.Mathlib.Omega.{arith}
 use borrow.Author.Needs.{needs}
 use Rattle.window.proofs.Numbers.{line-end}
 use Rattle.draw_blur.specs.Lanes.{Gathered}
-use Rattle.draw_blur.proofs.Turning.{gathered-none, gathered-more}
+use Rattle.draw_blur.proofs.RowsAsLanes.{gathered-none, gathered-more}
 use Rattle.draw_blur.proofs.lanes.gather_rows.Statement.{statement}
 use Rattle.draw_blur.proofs.lanes.gather_rows.Tie as tie
 

@@ -1,6 +1,6 @@
 -- `draw_map::kinds::map_row` meets its contract, method by method. Assumes nothing.
-use Rattle.pixel.proofs.Painting.{painted-as}
-use Rattle.draw_map.specs.Code.{worked, Prepared}
+use Rattle.pixel.proofs.PaintedRows.{painted-as}
+use Rattle.draw_map.specs.Code.{byMethod, Prepared}
 use borrow.Author.Needs.{needs}
 use Rattle.draw_map.proofs.kinds.map_row.Statement.{statement}
 use Rattle.draw_map.proofs.kinds.map_row.Tie as tie
@@ -31,7 +31,7 @@ same-length : tie.Need-same-length
 same-length c = search needs
 
 returns : tie.Need-returns
-unfolding worked
+unfolding byMethod
 returns c =
     let matrix-row-at = c .before .before in
     let method-at = matrix-row-at .before .before .before in
@@ -41,7 +41,7 @@ same-length-2 : tie.Need-same-length-2
 same-length-2 c = search needs
 
 returns-2 : tie.Need-returns-2
-unfolding worked
+unfolding byMethod
 returns-2 c =
     let luminance-row-at = c .before .before in
     let enum-told-at = luminance-row-at .before .before in

@@ -2,10 +2,10 @@
 use mathlib.Core.Path.{refl, ap}
 use native.Mathlib.Omega.{arith}
 use Rattle.pixel.specs.Coefficient.{AllowedMatrix}
-use Rattle.pixel.specs.Matrix.{transformed}
+use Rattle.pixel.specs.Matrix.{byMatrix}
 use Rattle.filter.specs.Kinds.{mapped}
-use Rattle.filter.proofs.Ranges.{matrix-allowed}
-use Rattle.draw_map.specs.Code.{worked, Prepared}
+use Rattle.filter.proofs.AllowedCoefficients.{matrix-allowed}
+use Rattle.draw_map.specs.Code.{byMethod, Prepared}
 use borrow.Author.Needs.{needs}
 use Rattle.draw_map.proofs.kinds.prepare.Statement.{statement}
 use Rattle.draw_map.proofs.kinds.prepare.Tie as tie
@@ -54,7 +54,7 @@ same-length-2 : tie.Need-same-length-2
 same-length-2 c = search needs
 
 returns : tie.Need-returns
-unfolding worked mapped Prepared
+unfolding byMethod mapped Prepared
 returns c =
     let by-matrix-at = c .before .before in
     let matrix-of-at = by-matrix-at .before .before in
@@ -64,7 +64,7 @@ returns c =
     let told = enum-told-at .enum-told .given .1 in
     let allowed : AllowedMatrix (matrix-of-at .matrix-of .result) = rw (matrix-of-at .matrix-of .ensures) (matrix-allowed _ (rw told at (s .pre .0))) in
     rw (by-matrix-at .by-matrix .ensures .0, told)
-    (ap transformed (matrix-of-at .matrix-of .ensures), (by-matrix-at .by-matrix .ensures .1, allowed, prepare-at .prepare .ensures))
+    (ap byMatrix (matrix-of-at .matrix-of .ensures), (by-matrix-at .by-matrix .ensures .1, allowed, prepare-at .prepare .ensures))
 
 same-length-3 : tie.Need-same-length-3
 same-length-3 c = search needs
@@ -73,14 +73,14 @@ same-length-4 : tie.Need-same-length-4
 same-length-4 c = search needs
 
 returns-2 : tie.Need-returns-2
-unfolding worked mapped Prepared
+unfolding byMethod mapped Prepared
 returns-2 c =
     let by-matrix-at = c .before .before in
     let saturate-of-at = by-matrix-at .before .before in
     let enum-told-at = saturate-of-at .before in
     let prepare-at = enum-told-at .before .before .before .before in
     rw (by-matrix-at .by-matrix2 .ensures .0, enum-told-at .enum-told2 .given .1)
-    (ap transformed (saturate-of-at .saturate-of .ensures .0), (by-matrix-at .by-matrix2 .ensures .1, saturate-of-at .saturate-of .ensures .1, prepare-at .prepare .ensures))
+    (ap byMatrix (saturate-of-at .saturate-of .ensures .0), (by-matrix-at .by-matrix2 .ensures .1, saturate-of-at .saturate-of .ensures .1, prepare-at .prepare .ensures))
 
 same-length-5 : tie.Need-same-length-5
 same-length-5 c = search needs
@@ -89,12 +89,12 @@ same-length-6 : tie.Need-same-length-6
 same-length-6 c = search needs
 
 returns-3 : tie.Need-returns-3
-unfolding worked mapped Prepared
+unfolding byMethod mapped Prepared
 returns-3 c =
-    let luma-at = c .before .before in
-    let enum-told-at = luma-at .before .before in
+    let luminances-at = c .before .before in
+    let enum-told-at = luminances-at .before .before in
     let prepare-at = enum-told-at .before .before .before .before in
-    rw (enum-told-at .enum-told3 .given .1) (refl, (luma-at .prepare2 .ensures, prepare-at .prepare .ensures))
+    rw (enum-told-at .enum-told3 .given .1) (refl, (luminances-at .prepare2 .ensures, prepare-at .prepare .ensures))
 
 pub prepare-spec : {M : Type 1} → statement M
 prepare-spec =

@@ -1,6 +1,6 @@
 -- `draw_pair::kinds::pair_row` meets its contract, method by method. Assumes nothing.
-use Rattle.pixel.proofs.Painting.{painted-as}
-use Rattle.draw_pair.specs.Code.{worked, Prepared}
+use Rattle.pixel.proofs.PaintedRows.{painted-as}
+use Rattle.draw_pair.specs.Code.{byMethod, Prepared}
 use mathlib.Core.Path.{refl}
 use borrow.Author.Needs.{needs}
 use Rattle.draw_pair.proofs.kinds.pair_row.Statement.{statement}
@@ -15,9 +15,9 @@ composite-row-requires c κs = search needs
 enum-known-method-2 : tie.Need-enum-known-method-2
 enum-known-method-2 c = search needs
 
-combine-row-requires : tie.Need-combine-row-requires
+arithmetic-row-requires : tie.Need-arithmetic-row-requires
 unfolding Prepared
-combine-row-requires c κs =
+arithmetic-row-requires c κs =
     let method-at = c .before .before in
     let s = method-at .before .before .before .before .before .before .before .before in
     (rw (method-at .method2 .given .1) at (s .pre .0 .0), s .pre .1 .0, s .pre .1 .1, s .pre .1 .4)
@@ -32,7 +32,7 @@ same-length-3 : tie.Need-same-length-3
 same-length-3 c = search needs
 
 returns : tie.Need-returns
-unfolding worked
+unfolding byMethod
 returns c =
     let composite-row-at = c .before .before .before .before .before .before in
     let method-at = composite-row-at .before .before .before .before .before in
@@ -42,11 +42,11 @@ same-length-4 : tie.Need-same-length-4
 same-length-4 c = search needs
 
 returns-2 : tie.Need-returns-2
-unfolding worked
+unfolding byMethod
 returns-2 c =
-    let combine-row-at = c .before .before in
-    let method-at = combine-row-at .before .before .before in
-    (painted-as _ _ _ _ _ _ _ (λ x l m. rw (method-at .method2 .given .1)) (combine-row-at .combine-row .ensures), (record { long = refl }, record { long = refl }))
+    let arithmetic-row-at = c .before .before in
+    let method-at = arithmetic-row-at .before .before .before in
+    (painted-as _ _ _ _ _ _ _ (λ x l m. rw (method-at .method2 .given .1)) (arithmetic-row-at .arithmetic-row .ensures), (record { long = refl }, record { long = refl }))
 
 pub pair-row-spec : {M : Type 1} → statement M
 pair-row-spec =
@@ -55,7 +55,7 @@ pair-row-spec =
     enum-known-method
     composite-row-requires
     enum-known-method-2
-    combine-row-requires
+    arithmetic-row-requires
     same-length
     same-length-2
     same-length-3

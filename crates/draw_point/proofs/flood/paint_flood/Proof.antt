@@ -4,7 +4,7 @@ use mathlib.Core.Path.{refl}
 use native.Mathlib.Omega.{arith}
 use lib.ListN.{length}
 use borrow.Author.Needs.{needs}
-use Rattle.stage.proofs.LoadedRows.{painted-into}
+use Rattle.buffers.proofs.LoadedRows.{painted-into}
 use Rattle.draw_point.proofs.flood.paint_flood.Statement.{statement}
 use Rattle.draw_point.proofs.flood.paint_flood.Tie as tie
 

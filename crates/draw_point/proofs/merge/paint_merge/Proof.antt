@@ -1,9 +1,9 @@
 -- `draw_point::merge::paint_merge` meets its contract: the stacked row is stored. Assumes nothing.
 use borrow.Author.Needs.{needs}
 use Rattle.filter.specs.Kinds.{workOf}
-use Rattle.stage.specs.Shown.{shown}
-use Rattle.stage.proofs.LoadedRows.{painted-stored}
-use Rattle.draw_point.specs.Row.{stackOf}
+use Rattle.buffers.specs.Shown.{shown}
+use Rattle.buffers.proofs.LoadedRows.{painted-stored}
+use Rattle.draw_point.specs.RowDrawn.{stackOf}
 use Rattle.draw_point.proofs.merge.paint_merge.Statement.{statement}
 use Rattle.draw_point.proofs.merge.paint_merge.Tie as tie
 

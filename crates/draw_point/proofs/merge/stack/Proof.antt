@@ -6,10 +6,10 @@ use borrow.Author.Needs.{needs}
 use Rattle.pixel.specs.Bytes.{ValidRow}
 use Rattle.filter.specs.Kinds.{reads}
 use Rattle.filter.specs.Accepted.{Measured}
-use Rattle.stage.specs.Shown.{shown}
-use Rattle.stage.proofs.LoadedRows.{loaded-valid, loaded-stays}
-use Rattle.draw_point.specs.Row.{WorkRow, stackOf, RowStacked}
-use Rattle.draw_point.proofs.Stacks.{stacked-first, merge-allowed, stacked-row, stacked-all}
+use Rattle.buffers.specs.Shown.{shown}
+use Rattle.buffers.proofs.LoadedRows.{loaded-valid, loaded-stays}
+use Rattle.draw_point.specs.RowDrawn.{WorkRow, stackOf, RowStacked}
+use Rattle.draw_point.proofs.StackedRows.{stacked-first, merge-allowed, stacked-row, stacked-all}
 use Rattle.draw_point.proofs.merge.stack.Statement.{statement}
 use Rattle.draw_point.proofs.merge.stack.Tie as tie
 
@@ -21,49 +21,49 @@ Inv-loop workspace source context pairs count inputs part a₀ g₀ row₀ j₀ 
 abbrev μ-loop : tie.MeasureT-loop
 μ-loop workspace source context pairs count inputs part a₀ g₀ row₀ j₀ a g row j = count - j
 
-load-requires : tie.Need-load-requires Inv-loop μ-loop
+load-first-requires : tie.Need-load-first-requires Inv-loop μ-loop
 unfolding reads Measured
-load-requires c κs =
+load-first-requires c κs =
     let s = c .before .before .before .before .before .before .before in
     let a = s .args in
     let D = s .pre .0 .0 in
-    ((D .drawable .readable, s .pre .0 .1), (merge-allowed (a .context .n) (a .count) 0 (a .inputs) (D .earlier) (D .measured .0) (omega arith), omega (arith, s .pre .1 .2)))
+    ((D .drawable .readable, s .pre .0 .1), (merge-allowed (a .context .n) (a .count) 0 (a .inputs) (D .earlier) (D .measured .0) (omega arith), s .pre .1 .2))
 
 loop-holds : tie.Need-loop-holds Inv-loop μ-loop
 unfolding reads Measured
 loop-holds c =
-    let load-at = c .before .before in
-    let s = load-at .before .before .before .before .before .before .before .before in
+    let load-first-at = c .before .before in
+    let s = load-first-at .before .before .before .before .before .before .before .before in
     let a = s .args in
     let D = s .pre .0 .0 in
     let E = shown (a .context) (a .source .now) (a .workspace .now) in
     let ok = merge-allowed (a .context .n) (a .count) 0 (a .inputs) (D .earlier) (D .measured .0) (omega arith) in (
       omega arith,
       omega arith,
-      loaded-stays (E (a .inputs .first)) (a .part .y) (a .part .from) (a .part .to) _ _ (load-at .load .ensures) (stackOf E (a .inputs) 1) (λ x. stacked-first E (a .inputs) x (a .part .y)),
-      loaded-valid (E (a .inputs .first)) (a .part .y) (a .part .from) (a .part .to) _ _ (load-at .load .ensures) (D .drawable .valid .valid _ ok),
+      loaded-stays (E (a .inputs .first)) (a .part .y) (a .part .from) (a .part .to) _ _ (load-first-at .load-first .ensures) (stackOf E (a .inputs) 1) (λ x. stacked-first E (a .inputs) x (a .part .y)),
+      loaded-valid (E (a .inputs .first)) (a .part .y) (a .part .from) (a .part .to) _ _ (load-first-at .load-first .ensures) (D .drawable .valid .valid _ ok),
       s .pre .1 .0,
       s .pre .1 .1,
     )
 
-input-at-requires : tie.Need-input-at-requires Inv-loop μ-loop
-input-at-requires c κs = search needs
+merge-input-at-requires : tie.Need-merge-input-at-requires Inv-loop μ-loop
+merge-input-at-requires c κs = search needs
 
 lay-requires : tie.Need-lay-requires Inv-loop μ-loop
 unfolding reads Measured
 lay-requires c κs =
-    let input-at-at = c .before .before .before in
-    let loop-test-at = input-at-at .before in
+    let merge-input-at-at = c .before .before .before in
+    let loop-test-at = merge-input-at-at .before in
     let loop-at = loop-test-at .before in
-    let load-at = loop-at .before .before .before in
-    let s = load-at .before .before .before .before .before .before .before .before in
+    let load-first-at = loop-at .before .before .before in
+    let s = load-first-at .before .before .before .before .before .before .before .before in
     let a = s .args in
     let D = s .pre .0 .0 in
     let j = loop-at .loop .j in
     let I = loop-at .loop .inv in
     let few : j < 4 = omega (arith, loop-test-at .loop-test .taken, D .measured .1) in
     let ok = merge-allowed (a .context .n) (a .count) j (a .inputs) (D .earlier) (loop-test-at .loop-test .taken) few in
-    ((D .drawable, rw (input-at-at .input-at .ensures) ok, s .pre .0 .1), ((I .4, I .5, I .2 .long ∙ load-at .load .ensures .long ∙ s .pre .1 .2), I .3))
+    ((D .drawable, rw (merge-input-at-at .merge-input-at .ensures) ok, s .pre .0 .1), ((I .4, I .5, I .2 .long ∙ load-first-at .load-first .ensures .long ∙ s .pre .1 .2), I .3))
 
 add-j : tie.Need-add-j Inv-loop μ-loop
 add-j c =
@@ -78,8 +78,8 @@ loop-again : tie.Need-loop-again Inv-loop μ-loop
 unfolding Measured
 loop-again c =
     let lay-at = c .before .before .before .before .before .before in
-    let input-at-at = lay-at .before .before .before .before in
-    let loop-test-at = input-at-at .before in
+    let merge-input-at-at = lay-at .before .before .before .before in
+    let loop-test-at = merge-input-at-at .before in
     let loop-at = loop-test-at .before in
     let s = loop-at .before .before .before .before .before .before .before .before .before .before .before in
     let a = s .args in
@@ -90,7 +90,7 @@ loop-again c =
     let few : j < 4 = omega (arith, loop-test-at .loop-test .taken, D .measured .1) in (
       omega arith,
       omega arith,
-      stacked-row E (a .inputs) (a .part) j _ _ _ _ (I .0) few (input-at-at .input-at .ensures) (I .2) (lay-at .lay .ensures .0),
+      stacked-row E (a .inputs) (a .part) j _ _ _ _ (I .0) few (merge-input-at-at .merge-input-at .ensures) (I .2) (lay-at .lay .ensures .0),
       lay-at .lay .ensures .1,
       lay-at .lay .kept .1 .1 .1 .1 .1 .1 .0 ∙ I .4,
       lay-at .lay .kept .1 .1 .1 .1 .1 .1 .1 .0 ∙ I .5,
@@ -111,21 +111,21 @@ same-length-2 c =
 same-length-3 : tie.Need-same-length-3 Inv-loop μ-loop
 same-length-3 c =
     let loop-at = c .before in
-    let load-at = loop-at .before .before .before in
-    loop-at .loop .inv .2 .long ∙ load-at .load .ensures .long
+    let load-first-at = loop-at .before .before .before in
+    loop-at .loop .inv .2 .long ∙ load-first-at .load-first .ensures .long
 
 returns : tie.Need-returns Inv-loop μ-loop
 unfolding Measured
 returns c =
     let loop-at = c .before in
-    let load-at = loop-at .before .before .before in
-    let s = load-at .before .before .before .before .before .before .before .before in
+    let load-first-at = loop-at .before .before .before in
+    let s = load-first-at .before .before .before .before .before .before .before .before in
     let a = s .args in
     let D = s .pre .0 .0 in
     let I = loop-at .loop .inv in
     let e : loop-at .loop .j ≡ a .count = omega (arith, I .0, I .1, c .loop-test .left, D .measured .0) in
     let E = shown (a .context) (a .source .now) (a .workspace .now) in
-    stacked-all E (a .inputs) (a .part) _ _ _ _ _ e (load-at .load .ensures) (I .2)
+    stacked-all E (a .inputs) (a .part) _ _ _ _ _ e (load-first-at .load-first .ensures) (I .2)
 
 pub stack-spec : {M : Type 1} → statement M
 stack-spec =
@@ -133,9 +133,9 @@ stack-spec =
     (tie.spec
     Inv-loop
     μ-loop
-    load-requires
+    load-first-requires
     loop-holds
-    input-at-requires
+    merge-input-at-requires
     lay-requires
     add-j
     loop-less

@@ -1,17 +1,18 @@
 -- `draw_point::offset::paint_offset` meets its contract: a row off the canvas is transparent, and another shows the columns that were loaded.
 -- Assumes nothing.
 use Prim.Native.Nat.{_+_, _*_, _≤_}
-use mathlib.Core.Path.{refl, sym}
+use mathlib.Core.Path.{refl, sym, _∙_}
 use native.Mathlib.Omega.{arith}
 use lib.ListN.{length}
 use borrow.Author.Needs.{needs}
-use Rattle.pixel.proofs.Painting.{painted-as}
+use Rattle.pixel.proofs.PaintedRows.{painted-as}
 use Rattle.filter.specs.Kinds.{workOf, reads}
 use Rattle.filter.specs.Accepted.{Measured}
-use Rattle.stage.proofs.Sizes.{sized-canvas}
-use Rattle.stage.proofs.Shown.{shown-blank}
-use Rattle.stage.proofs.LoadedRows.{part-long, painted-row}
-use Rattle.draw_point.proofs.Shifts.{shifted-above, shifted-below, cut-part, shift-small, moved-shifted}
+use Rattle.buffers.proofs.RowsFit.{sized-limits}
+use Rattle.buffers.proofs.ShownInputs.{shown-blank}
+use Rattle.buffers.proofs.LoadedRows.{part-long, painted-row}
+use Rattle.buffers.proofs.Seen.{held}
+use Rattle.draw_point.proofs.ShiftedRows.{shifted-above, shifted-below, cut-part, shift-small, moved-shifted}
 use Rattle.draw_point.proofs.offset.paint_offset.Statement.{statement}
 use Rattle.draw_point.proofs.offset.paint_offset.Tie as tie
 
@@ -76,41 +77,57 @@ add-cut-2 c =
 cut-requires-2 : tie.Need-cut-requires-2
 cut-requires-2 c κs = search needs
 
-load-requires : tie.Need-load-requires
+copy-own-requires : tie.Need-copy-own-requires
 unfolding reads
-load-requires c κs =
+copy-own-requires c κs =
     let cut2-at = c .before .before in
-    let cut-at = cut2-at .before .before in
-    let if2-at = cut-at .before .before in
-    let s = if2-at .before .before .before .before .before .before .before .before .before .before .before in
+    let cut-at = c .before .before .before .before in
+    let if2-at = c .before .before .before .before .before .before in
+    let s = c .before .before .before .before .before .before .before .before .before .before .before .before .before .before .before .before .before in
     let a = s .args in
     let D = s .pre .0 in
     let R = s .pre .1 in
     let K = cut-part (a .context .w) (a .dx) (a .part) _ _ (R .order) (cut-at .cut .ensures) (cut2-at .cut2 .ensures) in
-    ((D .drawable .readable, record { high = omega (arith, if2-at .if2 .left, R .high); order = K .0; wide = K .1 }), (D .earlier .0, omega (arith, s .pre .2, K .2)))
+    ((D .drawable .readable .sized, record { high = omega (arith, if2-at .if2 .left, R .high); order = K .0; wide = K .1 }), (D .earlier .0, omega (arith, s .pre .2, K .2)))
+
+load-requires : tie.Need-load-requires
+unfolding reads
+load-requires c κs =
+    let cut2-at = c .before .before .before .before .before .before .before in
+    let cut-at = c .before .before .before .before .before .before .before .before .before in
+    let if2-at = c .before .before .before .before .before .before .before .before .before .before .before in
+    let s = c .before .before .before .before .before .before .before .before .before .before .before .before .before .before .before .before .before .before .before .before .before .before in
+    let a = s .args in
+    let D = s .pre .0 in
+    let R = s .pre .1 in
+    let K = cut-part (a .context .w) (a .dx) (a .part) _ _ (R .order) (cut-at .cut .ensures) (cut2-at .cut2 .ensures) in
+    let C = c .before .before .before .before .copy-own .ensures in (
+      (D .drawable .readable, record { high = omega (arith, if2-at .if2 .left, R .high); order = K .0; wide = K .1 }),
+      ((D .earlier .0, omega (arith, C .long, s .pre .2, K .2)), held (a .context) (a .i) _ (a .source .now) (a .workspace .now) _ _ _ C),
+    )
 
 start-requires : tie.Need-start-requires
 start-requires c κs =
-    let s = c .before .before .before .before .before .before .before .before .before .before .before .before .before .before .before .before .before .before .before .before in
+    let s = c .before .before .before .before .before .before .before .before .before .before .before .before .before .before .before .before .before .before .before .before .before .before .before .before .before in
     let D = s .pre .0 in
     let R = s .pre .1 in
-    (sized-canvas (s .args .context) _ _ (D .drawable .readable .sized), record { high = R .high; order = omega arith; wide = omega arith })
+    (sized-limits (s .args .context) _ _ (D .drawable .readable .sized), record { high = R .high; order = omega arith; wide = omega arith })
 
 mul-hi : tie.Need-mul-hi
 mul-hi c =
-    let s = c .before .before .before .before .before .before .before .before .before .before .before .before .before .before .before .before .before .before .before .before .before in
+    let s = c .before .before .before .before .before .before .before .before .before .before .before .before .before .before .before .before .before .before .before .before .before .before .before .before .before .before in
     omega (arith, s .pre .0 .drawable .readable .sized .wide)
 
 add-hi : tie.Need-add-hi
 add-hi c =
-    let s = c .before .before .before .before .before .before .before .before .before .before .before .before .before .before .before .before .before .before .before .before .before in
+    let s = c .before .before .before .before .before .before .before .before .before .before .before .before .before .before .before .before .before .before .before .before .before .before .before .before .before .before in
     omega (arith, s .pre .0 .drawable .readable .sized .wide, c .start .ensures .1 .1)
 
 sub-shift-row : tie.Need-sub-shift-row
 sub-shift-row c =
-    let cut2-at = c .before .before .before .before .before .before .before in
-    let cut-at = cut2-at .before .before in
-    let s = cut-at .before .before .before .before .before .before .before .before .before .before .before .before .before in
+    let cut2-at = c .before .before .before .before .before .before .before .before .before .before .before .before in
+    let cut-at = c .before .before .before .before .before .before .before .before .before .before .before .before .before .before in
+    let s = c .before .before .before .before .before .before .before .before .before .before .before .before .before .before .before .before .before .before .before .before .before .before .before .before .before .before .before in
     let a = s .args in
     let R = s .pre .1 in
     cut-part (a .context .w) (a .dx) (a .part) _ _ (R .order) (cut-at .cut .ensures) (cut2-at .cut2 .ensures) .0
@@ -118,8 +135,8 @@ sub-shift-row c =
 add-shift-row : tie.Need-add-shift-row
 unfolding Measured
 add-shift-row c =
-    let cut-at = c .before .before .before .before .before .before .before .before .before in
-    let s = cut-at .before .before .before .before .before .before .before .before .before .before .before .before .before in
+    let cut-at = c .before .before .before .before .before .before .before .before .before .before .before .before .before .before in
+    let s = c .before .before .before .before .before .before .before .before .before .before .before .before .before .before .before .before .before .before .before .before .before .before .before .before .before .before .before in
     let a = s .args in
     let D = s .pre .0 in
     let R = s .pre .1 in
@@ -134,17 +151,18 @@ part-shift-row-start c = search needs
 
 part-shift-row-end : tie.Need-part-shift-row-end
 part-shift-row-end c =
-    let s = c .before .before .before .before .before .before .before .before .before .before .before .before .before .before .before .before .before .before .before .before .before .before in
+    let s = c .before .before .before .before .before .before .before .before .before .before .before .before .before .before .before .before .before .before .before .before .before .before .before .before .before .before .before in
     omega (arith, s .pre .0 .drawable .readable .sized .workspace, c .before .start .ensures .1 .0)
 
 shift-row-requires : tie.Need-shift-row-requires
 unfolding Measured
 shift-row-requires c κs =
+    let L = c .before .before .before .before .before .load .ensures in
+    let C = c .before .before .before .before .before .before .before .before .before .before .copy-own .ensures in
     let start-at = c .before .before in
-    let load-at = start-at .before .before .before in
-    let cut2-at = load-at .before .before .before in
-    let cut-at = cut2-at .before .before in
-    let s = cut-at .before .before .before .before .before .before .before .before .before .before .before .before .before in
+    let cut2-at = c .before .before .before .before .before .before .before .before .before .before .before .before .before in
+    let cut-at = c .before .before .before .before .before .before .before .before .before .before .before .before .before .before .before in
+    let s = c .before .before .before .before .before .before .before .before .before .before .before .before .before .before .before .before .before .before .before .before .before .before .before .before .before .before .before .before in
     let a = s .args in
     let D = s .pre .0 in
     let R = s .pre .1 in
@@ -152,7 +170,7 @@ shift-row-requires c κs =
     let small = shift-small (a .dx) (a .context .w) (a .part .from) _ (D .measured .0) (D .drawable .readable .sized .wide) (omega (arith, R .order, R .wide)) (cut-at .cut .ensures) in
     let fits : start-at .start .result + 4 * a .context .w ≤ length (a .workspace .now) = omega (arith, start-at .start .ensures .1 .0, D .drawable .readable .sized .workspace) in
     let long = part-long (start-at .start .result) (a .context .w) (a .workspace .now) fits in (
-      (omega (arith, K .2, load-at .load .ensures .long, s .pre .2), omega (arith, K .1, D .drawable .readable .sized .wide), small, D .measured .0 .minus),
+      (omega (arith, K .2, L .long, C .long, s .pre .2), omega (arith, K .1, D .drawable .readable .sized .wide), small, D .measured .0 .minus),
       (R .order, omega (arith, R .wide, D .drawable .readable .sized .wide), omega (arith, long, R .wide)),
     )
 
@@ -165,21 +183,22 @@ same-length-4 c = search needs
 returns-3 : tie.Need-returns-3
 unfolding workOf
 returns-3 c =
+    let L = c .before .before .before .before .before .before .before .before .load .ensures in
+    let C = c .before .before .before .before .before .before .before .before .before .before .before .before .before .copy-own .ensures in
     let shift-row-at = c .before .before in
-    let start-at = shift-row-at .before .before .before in
-    let load-at = start-at .before .before .before in
-    let cut2-at = load-at .before .before .before in
-    let cut-at = cut2-at .before .before in
-    let if1-at = cut-at .before .before .before .before .before in
-    let s = if1-at .before .before .before .before .before .before .before .before in
+    let start-at = c .before .before .before .before .before in
+    let cut2-at = c .before .before .before .before .before .before .before .before .before .before .before .before .before .before .before .before in
+    let cut-at = c .before .before .before .before .before .before .before .before .before .before .before .before .before .before .before .before .before .before in
+    let if1-at = c .before .before .before .before .before .before .before .before .before .before .before .before .before .before .before .before .before .before .before .before .before .before .before in
+    let s = c .before .before .before .before .before .before .before .before .before .before .before .before .before .before .before .before .before .before .before .before .before .before .before .before .before .before .before .before .before .before .before in
     let a = s .args in
     let D = s .pre .0 in
     let R = s .pre .1 in
     let fits : start-at .start .result + 4 * a .context .w ≤ length (a .workspace .now) = omega (arith, start-at .start .ensures .1 .0, D .drawable .readable .sized .workspace) in (
       painted-row (start-at .start .result) (a .context .w) (a .workspace .now) fits _ _ _ _ _ _ (start-at .start .ensures .0) (R .order) (R .wide)
-          (moved-shifted (a .dx) (a .dy) _ (a .context .w) (a .context .h) (a .part .y) _ (a .part .from) (a .part .to) _ _ _ _ (shown-blank (a .context) _ _ (a .i)) (R .order) (cut-at .cut .ensures) (cut2-at .cut2 .ensures) (if1-at .if1 .left) refl (load-at .load .ensures))
+          (moved-shifted (a .dx) (a .dy) _ (a .context .w) (a .context .h) (a .part .y) _ (a .part .from) (a .part .to) _ _ _ _ (shown-blank (a .context) _ _ (a .i)) (R .order) (cut-at .cut .ensures) (cut2-at .cut2 .ensures) (if1-at .if1 .left) refl L)
           (shift-row-at .shift-row .ensures),
-      record { long = load-at .load .ensures .long },
+      record { long = L .long ∙ C .long },
     )
 
 pub paint-offset-spec : {M : Type 1} → statement M
@@ -197,6 +216,7 @@ paint-offset-spec =
     cut-requires
     add-cut-2
     cut-requires-2
+    copy-own-requires
     load-requires
     start-requires
     mul-hi

@@ -3,17 +3,17 @@ use Prim.Native.Nat.{_≤_}
 use mathlib.Core.Path.{sym, ap}
 use native.Mathlib.Omega.{arith}
 use lib.ListN.{length, List·getD-eq-default}
-use Rattle.filter.specs.declared.Operand.{Operand}
-use Rattle.filter.specs.Steps.{noOperand}
+use Rattle.filter.specs.declared.StepNumber.{StepNumber}
+use Rattle.filter.specs.Steps.{noNumber}
 use borrow.Author.Needs.{needs}
 use Rattle.filter.proofs.steps.number_in.Statement.{statement}
 use Rattle.filter.proofs.steps.number_in.Tie as tie
 
-mul-operand : tie.Need-mul-operand
-mul-operand c = search needs
+mul-held : tie.Need-mul-held
+mul-held c = search needs
 
-array-copy-out-operand : tie.Need-array-copy-out-operand
-array-copy-out-operand c = search needs
+array-copy-out-held : tie.Need-array-copy-out-held
+array-copy-out-held c = search needs
 
 returns : tie.Need-returns
 returns c = search needs
@@ -22,7 +22,7 @@ returns-2 : tie.Need-returns-2
 returns-2 c =
     let s = c .before in
     let l : length (s .args .t1) ≤ s .args .i = omega (arith, s .good .0 .1 .0 .1) in
-    sym (ap (λ (o : Operand). o .number) (List·getD-eq-default (s .args .t1) noOperand l))
+    sym (ap (λ (o : StepNumber). o .number) (List·getD-eq-default (s .args .t1) noNumber l))
 
 pub number-in-spec : {M : Type 1} → statement M
-number-in-spec = tie.close (tie.spec mul-operand array-copy-out-operand returns returns-2)
+number-in-spec = tie.close (tie.spec mul-held array-copy-out-held returns returns-2)

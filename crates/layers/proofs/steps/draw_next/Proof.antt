@@ -4,7 +4,7 @@ use mathlib.Core.Bool.{true, false, false≢true}
 use borrow.Author.Needs.{needs}
 use borrow.Author.Tests.{not-true, not-false}
 use Rattle.filter.specs.Answers.{accepted?}
-use Rattle.layers.specs.Next.{StepDrawn}
+use Rattle.layers.specs.Next.{CallStepDrawn}
 use Rattle.layers.proofs.steps.draw_next.Statement.{statement}
 use Rattle.layers.proofs.steps.draw_next.Tie as tie
 
@@ -37,13 +37,13 @@ redraw-next-requires c κs =
     (R .buffers, R .rects _ (k .call .given .1))
 
 same-length : tie.Need-same-length
-same-length c = c .before .before .before .before .render-next .ensures .0 .stood .long
+same-length c = c .before .before .before .before .render-next .ensures .0 .layer .long
 
 same-length-2 : tie.Need-same-length-2
 same-length-2 c = c .before .before .before .before .render-next .ensures .1 .long
 
 returns-2 : tie.Need-returns-2
-unfolding StepDrawn
+unfolding CallStepDrawn
 returns-2 c =
     let r = c .before .before .before .before in
     let t = r .before .before .before in
@@ -54,13 +54,13 @@ returns-2 c =
     (record { drawn = λ _. rw (t .enum-told .given .1) (r .render-next .ensures .0); refused = λ a. absurd (not-refused a) }, record { long = r .render-next .ensures .1 .long; refused = λ a. absurd (not-refused a) })
 
 same-length-3 : tie.Need-same-length-3
-same-length-3 c = c .before .before .before .before .redraw-next .ensures .0 .stood .long
+same-length-3 c = c .before .before .before .before .redraw-next .ensures .0 .layer .long
 
 same-length-4 : tie.Need-same-length-4
 same-length-4 c = c .before .before .before .before .redraw-next .ensures .1 .long
 
 returns-3 : tie.Need-returns-3
-unfolding StepDrawn
+unfolding CallStepDrawn
 returns-3 c =
     let r = c .before .before .before .before in
     let k = r .before .before .before .before in

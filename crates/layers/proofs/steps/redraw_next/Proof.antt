@@ -7,8 +7,8 @@ use native.Mathlib.Omega.{arith}
 use Rattle.pixel.specs.declared.Space.the-variants.{Srgb}
 use Rattle.pixel.specs.Convert.{differ?}
 use Rattle.filter.specs.declared.Input.the-variants.{Source}
-use Rattle.damage.specs.Damage.{rectOf}
-use Rattle.damage.proofs.Damaged.{within-more, all-more}
+use Rattle.damage.specs.InputRects.{rectOf}
+use Rattle.damage.proofs.DamagesSoFar.{within-more, all-within-more}
 use Rattle.layers.proofs.StepInContext.{context-ready, damage-is-inside, damage-of-step, context-redrawn}
 use borrow.Author.Needs.{needs}
 use Rattle.layers.proofs.steps.redraw_next.Statement.{statement}
@@ -32,7 +32,7 @@ damage-of-requires : tie.Need-damage-of-requires
 damage-of-requires c κs =
     let s = c .before .before .before .before .before .before .before in
     let S = s .pre .0 .sized in
-    (rw (c .before .resolve .ensures) (s .pre .0 .accepted .numbers .shape), rw (c .bounds2 .ensures) (all-more _ _ _ _ (S .wide) (S .high) (s .pre .1 .within)))
+    (rw (c .before .resolve .ensures) (s .pre .0 .accepted .numbers .shape), rw (c .bounds2 .ensures) (all-within-more _ _ _ _ (S .wide) (S .high) (s .pre .1 .within)))
 
 area-requires : tie.Need-area-requires
 area-requires c κs =
@@ -89,7 +89,7 @@ returns c =
     let T = context-redrawn (k .context-for .result) _ _ _ (a .step) _ _ _ (C .0) (C .1) (C .2) (C .3) (C .4) (r .resolve .ensures) (b .bounds .ensures) _ _ _ _ e (D .1) _ (q .redraw-step .ensures .0) in
     let R = rw f at (c .before .with-rect .ensures) in
     let P = c .with-space .ensures in (
-      record { stood = T; rects = P .0 ∙ R .0; count = P .1 ∙ R .1; small = R .2; spaces = P .2 ∙ ap (λ (zs : List Bool). set zs (a .n) (differ? Srgb (a .step .space))) (R .3) },
+      record { layer = T; rects = P .0 ∙ R .rects; count = P .1 ∙ R .count; small = R .small; spaces = P .2 ∙ ap (λ (zs : List Bool). set zs (a .n) (differ? Srgb (a .step .space))) (R .linear) },
       q .redraw-step .ensures .1,
     )
 

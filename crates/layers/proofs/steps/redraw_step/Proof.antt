@@ -1,6 +1,6 @@
 -- `layers::steps::redraw_step` meets its contract: its rectangle is drawn. Assumes nothing.
-use Rattle.stage.proofs.Shown.{shown-valid}
-use Rattle.layers.proofs.Regions.{redraw-stood}
+use Rattle.buffers.proofs.ShownInputs.{shown-valid}
+use Rattle.layers.proofs.StepReplacesLayer.{redraw-replaces}
 use borrow.Author.Needs.{needs}
 use Rattle.layers.proofs.steps.redraw_step.Statement.{statement}
 use Rattle.layers.proofs.steps.redraw_step.Tie as tie
@@ -23,7 +23,7 @@ returns c =
     let d = c .before .before .before .before in
     let s = d .before .before .before .before .before .before in
     let a = s .args in
-    (redraw-stood (a .context) (a .step) (a .region) (a .source .now) (a .rect) _ _ (s .pre .1) (d .draw .ensures .0), d .draw .ensures .1)
+    (redraw-replaces (a .context) (a .step) (a .region) (a .source .now) (a .rect) _ _ (s .pre .1) (d .draw .ensures .0), d .draw .ensures .1)
 
 pub redraw-step-spec : {M : Type 1} → statement M
 redraw-step-spec = tie.close (tie.spec draw-requires same-length same-length-2 returns)

@@ -45,7 +45,7 @@ returns c =
     let s = b .before .before .before .before in
     let C = k .context-for .ensures in
     let T = context-rendered (k .context-for .result) _ _ _ (s .args .step) _ _ _ (C .0) (C .1) (C .2) (C .3) (C .4) (r .before .resolve .ensures) (b .bounds .ensures) _ _ _ (r .render-step .ensures .0) in
-    (record { stood = T; count = c .with-space .ensures .1; spaces = c .with-space .ensures .2 }, r .render-step .ensures .1)
+    (record { layer = T; count = c .with-space .ensures .1; spaces = c .with-space .ensures .2 }, r .render-step .ensures .1)
 
 pub render-next-spec : {M : Type 1} → statement M
 render-next-spec =

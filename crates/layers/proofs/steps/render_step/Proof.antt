@@ -1,7 +1,7 @@
 -- `layers::steps::render_step` meets its contract: the layer is cleared around the region, and the region drawn. Assumes nothing.
-use Rattle.stage.proofs.Agree.{valid-agree}
-use Rattle.stage.proofs.Shown.{shown-valid}
-use Rattle.layers.proofs.Regions.{sized-same, cleared-agree, render-stood}
+use Rattle.buffers.proofs.DrawnAgrees.{valid-agree}
+use Rattle.buffers.proofs.ShownInputs.{shown-valid}
+use Rattle.layers.proofs.StepReplacesLayer.{sized-same, cleared-agree, render-replaces}
 use borrow.Author.Needs.{needs}
 use Rattle.layers.proofs.steps.render_step.Statement.{statement}
 use Rattle.layers.proofs.steps.render_step.Tie as tie
@@ -36,7 +36,7 @@ returns c =
     let s = l .before .before .before .before .before in
     let a = s .args in
     let R = s .pre in (
-      render-stood (a .context) (a .step) (a .region) (a .source .now) _ _ _ (R .earlier) (R .region) (l .clear-around .ensures) (d .draw .ensures .0),
+      render-replaces (a .context) (a .step) (a .region) (a .source .now) _ _ _ (R .earlier) (R .region) (l .clear-around .ensures) (d .draw .ensures .0),
       d .draw .ensures .1,
     )
 

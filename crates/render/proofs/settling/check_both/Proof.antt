@@ -4,7 +4,7 @@ use Prim.Native.Nat.{ℕ, _*_}
 use native.Mathlib.Omega.{arith}
 use native.Mathlib.Nat.{mul-le-mul-right, mul-left-comm}
 use Rattle.filter.specs.Checks.{pixelsAnswer}
-use Rattle.render.proofs.Verdicts.{is-refused, is-passed, else-refused, else-passed, pixels-in}
+use Rattle.render.proofs.RefusalOrder.{is-refused, is-passed, else-refused, else-passed, pixels-in}
 use borrow.Author.Needs.{needs}
 use Rattle.render.proofs.settling.check_both.Statement.{statement}
 use Rattle.render.proofs.settling.check_both.Tie as tie

@@ -1,5 +1,5 @@
 -- `render::settling::check_pixels` meets its contract. Assumes nothing.
-use Rattle.render.proofs.Verdicts.{pixels-good, pixels-bad}
+use Rattle.render.proofs.RefusalOrder.{pixels-good, pixels-bad}
 use borrow.Author.Needs.{needs}
 use Rattle.render.proofs.settling.check_pixels.Statement.{statement}
 use Rattle.render.proofs.settling.check_pixels.Tie as tie

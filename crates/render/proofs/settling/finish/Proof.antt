@@ -1,6 +1,6 @@
 -- `render::settling::finish` meets its contract: cleared where the call was accepted. Assumes nothing.
 use mathlib.Core.Path.{_≡_, refl, sym, _∙_}
-use Rattle.render.proofs.Kept.{if-accepted, if-refused}
+use Rattle.render.proofs.PromisesKept.{if-accepted, if-refused}
 use borrow.Author.Needs.{needs}
 use Rattle.render.proofs.settling.finish.Statement.{statement}
 use Rattle.render.proofs.settling.finish.Tie as tie

@@ -3,7 +3,7 @@ use mathlib.Core.Path.{_≡_, refl, sym, ap, _∙_}
 use Rattle.filter.specs.declared.Answer.{Answer}
 use Rattle.filter.specs.Checks.{orElse}
 use Rattle.checks.proofs.Acceptance.{accepted-sizes}
-use Rattle.render.proofs.Verdicts.{is-refused, is-passed, settled-sizes, settled-early, settled-contents}
+use Rattle.render.proofs.RefusalOrder.{is-refused, is-passed, settled-sizes, settled-early, settled-contents}
 use borrow.Author.Needs.{needs}
 use Rattle.render.proofs.settling.settle.Statement.{statement}
 use Rattle.render.proofs.settling.settle.Tie as tie
@@ -22,8 +22,8 @@ returns c =
       (((λ i. c .before .before .before .before .before .shared-slice-known .given i .fits), (λ i. c .before .before .before .before .slice-known .given i .fits)), (refl, refl)),
     )
 
-check-named-requires : tie.Need-check-named-requires
-check-named-requires c κs = search needs
+check-changed-requires : tie.Need-check-changed-requires
+check-changed-requires c κs = search needs
 
 first-requires : tie.Need-first-requires
 first-requires c κs = search needs
@@ -35,7 +35,7 @@ returns-2 : tie.Need-returns-2
 returns-2 c =
     let s = c .before .before .before .before .before .before .before .before .before .before .args in
     let sizes = is-passed (c .before .before .before .before .before .before .check-sizes .ensures) (c .before .before .before .before .before .is-accepted .ensures) (c .before .before .before .before .if1 .left) in
-    let e = c .before .before .first .ensures ∙ ap (λ (a : Answer). orElse a (s .checked)) (c .before .before .before .check-named .ensures) in (
+    let e = c .before .before .first .ensures ∙ ap (λ (a : Answer). orElse a (s .checked)) (c .before .before .before .check-changed .ensures) in (
       e ∙ settled-early (s .call) (s .sheet) (s .n) (s .checked) (s .source .now) (s .workspace .now) _ sizes (is-refused e (c .before .is-accepted2 .ensures) (c .if2 .taken)),
       (((λ i. c .before .before .before .before .before .before .before .before .before .shared-slice-known .given i .fits), (λ i. c .before .before .before .before .before .before .before .before .slice-known .given i .fits)), (refl, refl)),
     )
@@ -52,7 +52,7 @@ returns-3 : tie.Need-returns-3
 returns-3 c =
     let s = c .before .before .before .before .before .before .before .before .before .before .before .before .args in
     let sizes = is-passed (c .before .before .before .before .before .before .before .before .check-sizes .ensures) (c .before .before .before .before .before .before .before .is-accepted .ensures) (c .before .before .before .before .before .before .if1 .left) in
-    let e = c .before .before .before .before .first .ensures ∙ ap (λ (a : Answer). orElse a (s .checked)) (c .before .before .before .before .before .check-named .ensures) in (
+    let e = c .before .before .before .before .first .ensures ∙ ap (λ (a : Answer). orElse a (s .checked)) (c .before .before .before .before .before .check-changed .ensures) in (
       c .check-contents .ensures ∙ settled-contents (s .call) (s .sheet) (s .n) (s .checked) (s .source .now) (s .workspace .now) _ sizes (is-passed e (c .before .before .before .is-accepted2 .ensures) (c .before .before .if2 .left)),
       (((λ i. c .before .before .before .before .before .before .before .before .before .before .before .shared-slice-known .given i .fits), (λ i. c .before .before .before .before .before .before .before .before .before .before .slice-known .given i .fits)), (refl, refl)),
     )
@@ -64,7 +64,7 @@ settle-spec =
     check-sizes-requires
     is-accepted-requires
     returns
-    check-named-requires
+    check-changed-requires
     first-requires
     is-accepted-requires-2
     returns-2

@@ -8,8 +8,8 @@ use borrow.Author.Needs.{needs}
 use Rattle.render.proofs.views.layer.Statement.{statement}
 use Rattle.render.proofs.views.layer.Tie as tie
 
-place-requires : tie.Need-place-requires
-place-requires c κs = search needs
+view-at-requires : tie.Need-view-at-requires
+view-at-requires c κs = search needs
 
 add-e : tie.Need-add-e
 add-e c = search needs
@@ -26,11 +26,11 @@ part-result-end c = search needs
 returns : tie.Need-returns
 returns c =
     let s = c .before .before .before .before .args in
-    let v = c .before .before .place .result in
-    let e = c .before .before .place .ensures .0 in
+    let v = c .before .before .view-at .result in
+    let e = c .before .before .view-at .ensures .0 in
     let k : v .offset + v .bytes - v .offset ≡ v .bytes = omega arith in
     (ap (λ (u : View). (s .workspace .ptr .0, u .offset + s .workspace .ptr .1)) e, rw k (ap (λ (u : View). partAt u (s .workspace .now)) e))
 
 pub layer-spec : {M : Type 1} → statement M
 layer-spec =
-    tie.close (tie.spec place-requires add-e sub-result part-result-start part-result-end returns)
+    tie.close (tie.spec view-at-requires add-e sub-result part-result-start part-result-end returns)

@@ -5,7 +5,7 @@ use native.Mathlib.Omega.{arith}
 use lib.ListN.{length}
 use borrow.Author.Needs.{needs}
 use Rattle.tables.specs.Content.{zeros?}
-use Rattle.tables.proofs.Totals.{zeros-more}
+use Rattle.tables.proofs.SumsAndZeros.{zeros-more}
 use Rattle.tables.proofs.content.is_zero.Statement.{statement}
 use Rattle.tables.proofs.content.is_zero.Tie as tie
 

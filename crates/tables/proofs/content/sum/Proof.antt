@@ -5,7 +5,7 @@ use native.Mathlib.Omega.{arith}
 use lib.ListN.{length}
 use borrow.Author.Needs.{needs}
 use Rattle.tables.specs.Content.{sumOf}
-use Rattle.tables.proofs.Totals.{sum-more}
+use Rattle.tables.proofs.SumsAndZeros.{sum-more}
 use Rattle.tables.proofs.content.sum.Statement.{statement}
 use Rattle.tables.proofs.content.sum.Tie as tie
 

@@ -1,7 +1,7 @@
 -- `tables::field::digit` meets its contract. Assumes nothing.
 use mathlib.Core.Path.{sym}
 use borrow.Author.Needs.{needs}
-use Rattle.tables.proofs.Digits.{digit-decimal, digit-letter}
+use Rattle.tables.proofs.HexDigits.{digit-decimal, digit-letter}
 use Rattle.tables.proofs.field.digit.Statement.{statement}
 use Rattle.tables.proofs.field.digit.Tie as tie
 

@@ -4,7 +4,7 @@ use mathlib.Core.Path.{_≡_, sym, ap, ap₂, _∙_}
 use native.Mathlib.Omega.{arith}
 use borrow.Author.Needs.{needs}
 use Rattle.tables.specs.Hex.{hexOf}
-use Rattle.tables.proofs.Digits.{hex-none, hex-more, hex-room}
+use Rattle.tables.proofs.HexDigits.{hex-none, hex-more, hex-room}
 use Rattle.tables.proofs.field.hex.Statement.{statement}
 use Rattle.tables.proofs.field.hex.Tie as tie
 

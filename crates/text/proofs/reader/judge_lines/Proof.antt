@@ -1,6 +1,6 @@
 -- `text::reader::judge_lines` meets its contract. Lines after a canvas without rows. Assumes nothing.
-use Rattle.text.proofs.Rows.{sized-empty}
-use Rattle.text.proofs.Scanned.{alone}
+use Rattle.text.proofs.LineAdded.{sized-empty}
+use Rattle.text.proofs.LinesScanned.{alone}
 use borrow.Author.Needs.{needs}
 use Rattle.text.proofs.reader.judge_lines.Statement.{statement}
 use Rattle.text.proofs.reader.judge_lines.Tie as tie

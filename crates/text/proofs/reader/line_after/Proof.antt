@@ -1,5 +1,5 @@
 -- `text::reader::line_after` meets its contract. A line feed stands before the end of the text. Assumes nothing.
-use Rattle.text_field.proofs.Pieces.{piece-le}
+use Rattle.text_field.proofs.SplitByIndex.{piece-le}
 use borrow.Author.Needs.{needs}
 use Rattle.text.proofs.reader.line_after.Statement.{statement}
 use Rattle.text.proofs.reader.line_after.Tie as tie

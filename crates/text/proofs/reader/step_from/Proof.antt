@@ -1,7 +1,7 @@
 -- `text::reader::step_from` meets its contract. Step n stands on line n of those after the canvas. Assumes nothing.
 use mathlib.Core.Path.{ap, _∙_}
 use Prim.Native.Nat.{ℕ}
-use Rattle.text_field.proofs.Pieces.{piece-le}
+use Rattle.text_field.proofs.SplitByIndex.{piece-le}
 use Rattle.text_step.specs.declared.StepLine.{StepLine}
 use Rattle.text.specs.Reading.{lineAt}
 use Rattle.text.proofs.Stepped.{step-inside, step-is}

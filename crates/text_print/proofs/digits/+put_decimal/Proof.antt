@@ -6,8 +6,8 @@ use lib.ListN.{length}
 use borrow.Author.Needs.{needs}
 use borrow.Fn.Kinds.{In}
 use borrow.Fn.PlainCycle.{Measures, is, falls, and}
-use Rattle.text_print.proofs.Decimals.{decimal-digit, decimal-more, decimal-length}
-use Rattle.text_print.proofs.Puts.{put-as, put-then}
+use Rattle.text_print.proofs.DecimalDigits.{decimal-digit, decimal-more, decimal-length}
+use Rattle.text_print.proofs.PutTexts.{put-as, put-then}
 use Rattle.text_print.proofs.digits.+put_decimal.{statement}
 use Rattle.text_print.proofs.digits.put_decimal.Reads as put-decimal
 use Rattle.text_print.proofs.digits.put_decimal.Kinds as put-decimal-kinds

@@ -1,7 +1,7 @@
 -- `text_print::digits::digit` meets its contract. Assumes nothing.
 use mathlib.Core.Path.{sym}
 use borrow.Author.Needs.{needs}
-use Rattle.text_print.proofs.Decimals.{digit-low, digit-high}
+use Rattle.text_print.proofs.DecimalDigits.{digit-low, digit-high}
 use Rattle.text_print.proofs.digits.digit.Statement.{statement}
 use Rattle.text_print.proofs.digits.digit.Tie as tie
 

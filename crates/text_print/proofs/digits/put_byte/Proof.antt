@@ -1,6 +1,6 @@
 -- `text_print::digits::put_byte` meets its contract. Assumes nothing.
 use borrow.Author.Needs.{needs}
-use Rattle.text_print.proofs.Puts.{put-one}
+use Rattle.text_print.proofs.PutTexts.{put-one}
 use Rattle.text_print.proofs.digits.put_byte.Statement.{statement}
 use Rattle.text_print.proofs.digits.put_byte.Tie as tie
 

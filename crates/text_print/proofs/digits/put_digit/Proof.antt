@@ -3,7 +3,7 @@ use mathlib.Core.Path.{ap}
 use mathlib.Core.List.{[], _∷_}
 use Prim.Native.Nat.{ℕ}
 use borrow.Author.Needs.{needs}
-use Rattle.text_print.proofs.Puts.{put-as}
+use Rattle.text_print.proofs.PutTexts.{put-as}
 use Rattle.text_print.proofs.digits.put_digit.Statement.{statement}
 use Rattle.text_print.proofs.digits.put_digit.Tie as tie
 

@@ -1,7 +1,7 @@
 -- `text_print::digits::put_hex` meets its contract. Assumes nothing.
 use borrow.Author.Needs.{needs}
 use Rattle.text_print.specs.Digits.{hexByte}
-use Rattle.text_print.proofs.Puts.{put-then}
+use Rattle.text_print.proofs.PutTexts.{put-then}
 use Rattle.text_print.proofs.digits.put_hex.Statement.{statement}
 use Rattle.text_print.proofs.digits.put_hex.Tie as tie
 

@@ -1,7 +1,7 @@
 -- `text_print::digits::put_pixel` meets its contract. Assumes nothing.
 use borrow.Author.Needs.{needs}
 use Rattle.text_print.specs.Digits.{hexByte, hexPixel}
-use Rattle.text_print.proofs.Puts.{put-then}
+use Rattle.text_print.proofs.PutTexts.{put-then}
 use Rattle.text_print.proofs.digits.put_pixel.Statement.{statement}
 use Rattle.text_print.proofs.digits.put_pixel.Tie as tie
 

@@ -5,7 +5,7 @@ use native.Mathlib.Omega.{arith}
 use lib.ListN.{length, take}
 use borrow.Author.Needs.{needs}
 use Rattle.text_print.specs.Code.{Put}
-use Rattle.text_print.proofs.Puts.{word-none, word-more, word-all}
+use Rattle.text_print.proofs.PutTexts.{word-none, word-more, word-all}
 use Rattle.text_print.proofs.digits.put_word.Statement.{statement}
 use Rattle.text_print.proofs.digits.put_word.Tie as tie
 

@@ -5,8 +5,8 @@ use native.Mathlib.Omega.{arith}
 use borrow.Author.Needs.{needs}
 use Rattle.pixel.specs.declared.Pixel.{Pixel}
 use Rattle.text_print.specs.Digits.{hexPixel}
-use Rattle.text_print.proofs.Puts.{put-as, put-then}
-use Rattle.text_print.proofs.Decimals.{hex-length}
+use Rattle.text_print.proofs.PutTexts.{put-as, put-then}
+use Rattle.text_print.proofs.DecimalDigits.{hex-length}
 use Rattle.text_print.proofs.lines.put_field.Statement.{statement}
 use Rattle.text_print.proofs.lines.put_field.Tie as tie
 

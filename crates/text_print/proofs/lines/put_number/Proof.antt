@@ -1,6 +1,6 @@
 -- `text_print::lines::put_number` meets its contract. Assumes nothing.
 use borrow.Author.Needs.{needs}
-use Rattle.text_print.proofs.Puts.{put-then}
+use Rattle.text_print.proofs.PutTexts.{put-then}
 use Rattle.text_print.proofs.lines.put_number.Statement.{statement}
 use Rattle.text_print.proofs.lines.put_number.Tie as tie
 

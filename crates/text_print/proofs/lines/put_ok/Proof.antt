@@ -3,7 +3,7 @@ use native.Mathlib.Omega.{arith}
 use borrow.Author.Needs.{needs}
 use Rattle.filter.specs.Bytes.{read}
 use Rattle.text_print.specs.Output.{inSrgb}
-use Rattle.text_print.proofs.Fields.{ok-put, ok-length}
+use Rattle.text_print.proofs.PrintedRows.{ok-put, ok-length}
 use Rattle.text_print.proofs.lines.put_ok.Statement.{statement}
 use Rattle.text_print.proofs.lines.put_ok.Tie as tie
 

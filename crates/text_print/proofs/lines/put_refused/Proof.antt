@@ -1,7 +1,7 @@
 -- `text_print::lines::put_refused` meets its contract. Assumes nothing.
 use native.Mathlib.Omega.{arith}
 use borrow.Author.Needs.{needs}
-use Rattle.text_print.proofs.Fields.{refused-put, refused-length}
+use Rattle.text_print.proofs.PrintedRows.{refused-put, refused-length}
 use Rattle.text_print.proofs.lines.put_refused.Statement.{statement}
 use Rattle.text_print.proofs.lines.put_refused.Tie as tie
 

@@ -4,8 +4,8 @@ use Prim.Native.Nat.{_-_}
 use native.Mathlib.Omega.{arith}
 use borrow.Author.Needs.{needs}
 use Rattle.text_print.specs.Code.{rowFrom}
-use Rattle.text_print.proofs.Fields.{row-put, cells, cell-length}
-use Rattle.text_print.proofs.Puts.{putting-end, Putting, putting-none, putting-room, putting-more, putting-all}
+use Rattle.text_print.proofs.PrintedRows.{row-put, cells, cell-length}
+use Rattle.text_print.proofs.PutTexts.{putting-end, Putting, putting-none, putting-room, putting-more, putting-all}
 use Rattle.text_print.proofs.lines.put_row.Statement.{statement}
 use Rattle.text_print.proofs.lines.put_row.Tie as tie
 

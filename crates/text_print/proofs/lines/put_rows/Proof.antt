@@ -4,8 +4,8 @@ use native.Mathlib.Omega.{arith}
 use borrow.Author.Needs.{needs}
 use Rattle.filter.specs.Bytes.{read}
 use Rattle.text_print.specs.Output.{rowLines, inSrgb}
-use Rattle.text_print.proofs.Puts.{Putting, putting-none, putting-room, putting-more, putting-all}
-use Rattle.text_print.proofs.Fields.{rows, rows-length, row-read, row-end, lines-length}
+use Rattle.text_print.proofs.PutTexts.{Putting, putting-none, putting-room, putting-more, putting-all}
+use Rattle.text_print.proofs.PrintedRows.{rows, rows-length, row-read, row-end, lines-length}
 use Rattle.text_print.proofs.lines.put_rows.Statement.{statement}
 use Rattle.text_print.proofs.lines.put_rows.Tie as tie
 

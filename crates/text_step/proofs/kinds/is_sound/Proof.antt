@@ -1,6 +1,6 @@
 -- `text_step::kinds::is_sound` meets its contract. The row is the kind's. Assumes nothing.
 use Rattle.text_field.specs.Split.{split}
-use Rattle.text_step.proofs.Assembled.{sound-is}
+use Rattle.text_step.proofs.StepLineParts.{sound-is}
 use borrow.Author.Needs.{needs}
 use Rattle.text_step.proofs.kinds.is_sound.Statement.{statement}
 use Rattle.text_step.proofs.kinds.is_sound.Tie as tie

@@ -8,33 +8,33 @@ use Rattle.text_step.proofs.kinds.kind_of.Tie as tie
 field-requires : tie.Need-field-requires
 field-requires c κs = search needs
 
-byte-at-requires : tie.Need-byte-at-requires
-byte-at-requires c κs = search needs
+flood-byte-requires : tie.Need-flood-byte-requires
+flood-byte-requires c κs = search needs
 
-byte-at-requires-2 : tie.Need-byte-at-requires-2
-byte-at-requires-2 c κs = search needs
+flood-byte-requires-2 : tie.Need-flood-byte-requires-2
+flood-byte-requires-2 c κs = search needs
 
-byte-at-requires-3 : tie.Need-byte-at-requires-3
-byte-at-requires-3 c κs = search needs
+flood-byte-requires-3 : tie.Need-flood-byte-requires-3
+flood-byte-requires-3 c κs = search needs
 
 merge-inputs-requires : tie.Need-merge-inputs-requires
 merge-inputs-requires c κs = search needs
 
-kind-named-requires : tie.Need-kind-named-requires
-kind-named-requires c κs = search needs
+kind-by-word-requires : tie.Need-kind-by-word-requires
+kind-by-word-requires c κs = search needs
 
 returns : tie.Need-returns
 unfolding kindOf
-returns c = c .kind-named .ensures ∙ cc
+returns c = c .kind-by-word .ensures ∙ cc
 
 pub kind-of-spec : {M : Type 1} → statement M
 kind-of-spec =
     tie.close
     (tie.spec
     field-requires
-    byte-at-requires
-    byte-at-requires-2
-    byte-at-requires-3
+    flood-byte-requires
+    flood-byte-requires-2
+    flood-byte-requires-3
     merge-inputs-requires
-    kind-named-requires
+    kind-by-word-requires
     returns)

@@ -1,5 +1,5 @@
 -- `text_step::kinds::merge_inputs` meets its contract. By the last field. Assumes nothing.
-use Rattle.text_step.proofs.Closed.{merge-spaced, merge-bare}
+use Rattle.text_step.proofs.SpaceField.{merge-spaced, merge-bare}
 use borrow.Author.Needs.{needs}
 use Rattle.text_step.proofs.kinds.merge_inputs.Statement.{statement}
 use Rattle.text_step.proofs.kinds.merge_inputs.Tie as tie

@@ -1,6 +1,6 @@
 -- `text_step::spaces::is_closed` meets its contract. By the count of fields. Assumes nothing.
 use mathlib.Core.Path.{_∙_}
-use Rattle.text_step.proofs.Closed.{closed-same, closed-other}
+use Rattle.text_step.proofs.SpaceField.{closed-same, closed-other}
 use borrow.Author.Needs.{needs}
 use native.Mathlib.Omega.{arith}
 use Rattle.text_step.proofs.spaces.is_closed.Statement.{statement}

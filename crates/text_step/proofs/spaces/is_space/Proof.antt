@@ -1,6 +1,6 @@
 -- `text_step::spaces::is_space` meets its contract. By the two words. Assumes nothing.
 use mathlib.Core.Path.{sym, _∙_}
-use Rattle.text_step.proofs.Closed.{space-srgb, space-linear}
+use Rattle.text_step.proofs.SpaceField.{space-srgb, space-linear}
 use borrow.Author.Needs.{needs}
 use Rattle.text_step.proofs.spaces.is_space.Statement.{statement}
 use Rattle.text_step.proofs.spaces.is_space.Tie as tie

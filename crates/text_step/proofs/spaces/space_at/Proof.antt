@@ -1,5 +1,5 @@
 -- `text_step::spaces::space_at` meets its contract. By the word. Assumes nothing.
-use Rattle.text_step.proofs.Closed.{at-srgb, at-linear}
+use Rattle.text_step.proofs.SpaceField.{at-srgb, at-linear}
 use borrow.Author.Needs.{needs}
 use Rattle.text_step.proofs.spaces.space_at.Statement.{statement}
 use Rattle.text_step.proofs.spaces.space_at.Tie as tie

@@ -1,5 +1,5 @@
 -- `text_step::step_lines::assemble` meets its contract. By the three flags. Assumes nothing.
-use Rattle.text_step.proofs.Assembled.{assembled-good, assembled-bad}
+use Rattle.text_step.proofs.StepLineParts.{assembled-good, assembled-bad}
 use borrow.Author.Needs.{needs}
 use Rattle.text_step.proofs.step_lines.assemble.Statement.{statement}
 use Rattle.text_step.proofs.step_lines.assemble.Tie as tie

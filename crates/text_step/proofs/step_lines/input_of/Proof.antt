@@ -1,5 +1,5 @@
 -- `text_step::step_lines::input_of` meets its contract. By the two words. Assumes nothing.
-use Rattle.text_step.proofs.Assembled.{input-src, input-alpha, input-layer}
+use Rattle.text_step.proofs.StepLineParts.{input-src, input-alpha, input-layer}
 use borrow.Author.Needs.{needs}
 use Rattle.text_step.proofs.step_lines.input_of.Statement.{statement}
 use Rattle.text_step.proofs.step_lines.input_of.Tie as tie
@@ -25,13 +25,13 @@ returns-2 c = input-alpha _ (c .before .before .before .before .equals .ensures)
 whole-requires : tie.Need-whole-requires
 whole-requires c κs = search needs
 
-layer-of-requires : tie.Need-layer-of-requires
-layer-of-requires c κs = search needs
+layer-reference-requires : tie.Need-layer-reference-requires
+layer-reference-requires c κs = search needs
 
 returns-3 : tie.Need-returns-3
 returns-3 c =
     let e = c .before .before .before in
-    input-layer _ (e .before .before .before .equals .ensures) (e .before .before .if1 .left) (e .equals2 .ensures) (c .before .before .if2 .left) (c .before .whole .ensures) (c .layer-of .ensures)
+    input-layer _ (e .before .before .before .equals .ensures) (e .before .before .if1 .left) (e .equals2 .ensures) (c .before .before .if2 .left) (c .before .whole .ensures) (c .layer-reference .ensures)
 
 pub input-of-spec : {M : Type 1} → statement M
 input-of-spec =
@@ -44,5 +44,5 @@ input-of-spec =
     equals-requires-2
     returns-2
     whole-requires
-    layer-of-requires
+    layer-reference-requires
     returns-3)

@@ -2,8 +2,8 @@
 use mathlib.Core.Path.{refl, sym, _∙_}
 use borrow.Author.Tests.{not-true, not-false}
 use native.Mathlib.Omega.{arith}
-use Rattle.text_step.proofs.Closed.{closed-long}
-use Rattle.text_step.proofs.Assembled.{few-fields, as-unsound, as-open, as-good}
+use Rattle.text_step.proofs.SpaceField.{closed-long}
+use Rattle.text_step.proofs.StepLineParts.{few-fields, as-unsound, as-open, as-good}
 use borrow.Author.Needs.{needs}
 use Rattle.text_step.proofs.step_lines.step_as.Statement.{statement}
 use Rattle.text_step.proofs.step_lines.step_as.Tie as tie
@@ -57,33 +57,33 @@ region-given-requires c κs = search needs
 region-of-requires : tie.Need-region-of-requires
 region-of-requires c κs = search needs
 
-add-wires-of : tie.Need-add-wires-of
-add-wires-of c =
+add-step-inputs : tie.Need-add-step-inputs
+add-step-inputs c =
     let p = c .before .before .before .before in
     let f = few-fields (p .before .before .before .before .before .args .kind) _ (p .before .before .before .signature-of .ensures) (p .before .before .is-sound .ensures) (not-false _ (p .before .if1 .left)) (p .number-count .ensures) in
     omega (arith, f .2)
 
-wires-of-requires : tie.Need-wires-of-requires
-wires-of-requires c κs =
+step-inputs-requires : tie.Need-step-inputs-requires
+step-inputs-requires c κs =
     let p = c .before .before .before .before in
     let f = few-fields (p .before .before .before .before .before .args .kind) _ (p .before .before .before .signature-of .ensures) (p .before .before .is-sound .ensures) (not-false _ (p .before .if1 .left)) (p .number-count .ensures) in
     let l = closed-long _ _ (sym (c .before .before .before .is-closed .ensures) ∙ not-false _ (c .before .before .if2 .left)) in
     (f .0, omega (arith, l))
 
-add-operands-of : tie.Need-add-operands-of
-add-operands-of c =
+add-step-numbers : tie.Need-add-step-numbers
+add-step-numbers c =
     let p = c .before .before .before .before .before in
     let f = few-fields (p .before .before .before .before .before .args .kind) _ (p .before .before .before .signature-of .ensures) (p .before .before .is-sound .ensures) (not-false _ (p .before .if1 .left)) (p .number-count .ensures) in
     omega (arith, f .2)
 
-add-operands-of-2 : tie.Need-add-operands-of-2
-add-operands-of-2 c =
+add-step-numbers-2 : tie.Need-add-step-numbers-2
+add-step-numbers-2 c =
     let p = c .before .before .before .before .before in
     let f = few-fields (p .before .before .before .before .before .args .kind) _ (p .before .before .before .signature-of .ensures) (p .before .before .is-sound .ensures) (not-false _ (p .before .if1 .left)) (p .number-count .ensures) in
     omega (arith, f .2)
 
-operands-of-requires : tie.Need-operands-of-requires
-operands-of-requires c κs =
+step-numbers-requires : tie.Need-step-numbers-requires
+step-numbers-requires c κs =
     let p = c .before .before .before .before .before in
     let f = few-fields (p .before .before .before .before .before .args .kind) _ (p .before .before .before .signature-of .ensures) (p .before .before .is-sound .ensures) (not-false _ (p .before .if1 .left)) (p .number-count .ensures) in
     let l = closed-long _ _ (sym (c .before .before .before .before .is-closed .ensures) ∙ not-false _ (c .before .before .before .if2 .left)) in
@@ -100,7 +100,7 @@ returns-3 c =
     let p = c .before .before .before .before .before .before .before .before in
     as-good _ _ (p .before .before .is-sound .ensures) (p .before .before .before .signature-of .ensures) (p .number-count .ensures) refl (c .before .before .before .before .before .before .before .is-closed .ensures)
     (not-false _ (p .before .if1 .left)) (not-false _ (c .before .before .before .before .before .before .if2 .left)) (c .before .before .before .before .before .region-given .ensures) (c .before .before .before .before .region-of .ensures)
-    (c .before .before .before .wires-of .ensures) (c .before .before .operands-of .ensures) (c .before .space-at .ensures) (c .assemble .ensures)
+    (c .before .before .before .step-inputs .ensures) (c .before .before .step-numbers .ensures) (c .before .space-at .ensures) (c .assemble .ensures)
 
 pub step-as-spec : {M : Type 1} → statement M
 step-as-spec =
@@ -119,11 +119,11 @@ step-as-spec =
     returns-2
     region-given-requires
     region-of-requires
-    add-wires-of
-    wires-of-requires
-    add-operands-of
-    add-operands-of-2
-    operands-of-requires
+    add-step-inputs
+    step-inputs-requires
+    add-step-numbers
+    add-step-numbers-2
+    step-numbers-requires
     space-at-requires
     assemble-requires
     returns-3)

@@ -1,5 +1,5 @@
 -- `text_step::step_lines::step_of` meets its contract. By the kind that the line names. Assumes nothing.
-use Rattle.text_step.proofs.Assembled.{step-known, step-unknown}
+use Rattle.text_step.proofs.StepLineParts.{step-known, step-unknown}
 use borrow.Author.Needs.{needs}
 use Rattle.text_step.proofs.step_lines.step_of.Statement.{statement}
 use Rattle.text_step.proofs.step_lines.step_of.Tie as tie

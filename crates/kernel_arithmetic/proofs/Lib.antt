@@ -1,0 +1,3 @@
+-- Laws that the proofs of the kernel cite.
+pub mod ChannelIsLine
+pub mod TableLines

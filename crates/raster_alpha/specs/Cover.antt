@@ -1,7 +1,0 @@
--- What premultiplying makes of a pixel whose colours are not yet premultiplied. Assumes nothing.
-use Rattle.pixel.specs.declared.Pixel.{Pixel}
-use Rattle.pixel.specs.Alpha.{pixel, premultiplied}
-
--- the colours premultiplied by the alpha
-unfoldable pub covered : Pixel → Pixel
-covered p = pixel (premultiplied (p .r) (p .a)) (premultiplied (p .g) (p .a)) (premultiplied (p .b) (p .a)) (p .a)

@@ -1,4 +1,0 @@
--- What the tables of every alpha and of luminance hold, pixels premultiplied, and what the code works out on the way.
-pub mod Tables
-pub mod Cover
-pub mod Code

@@ -1,3 +1,0 @@
--- Laws that the proofs of the kernel cite.
-pub mod Channels
-pub mod Lines

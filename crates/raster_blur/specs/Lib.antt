@@ -1,4 +1,0 @@
--- What the crate's clauses cite.
-pub mod Place
-pub mod Blurred
-pub mod Advance
