@@ -12,8 +12,8 @@
  * A slice is a pointer and its length in bytes. Every length and every number is checked: what does not fit is refused,
  * and a refused render or redraw changes no byte of any slice. What the library cannot check is the caller's part: a
  * pointer is not null, not even with length 0, and has that many bytes behind it, and what is written does not overlap
- * anything else that is passed. Nothing is allocated; a call uses up to 230 KB of stack,
- * twillgoose_sheet up to 300 KB.
+ * anything else that is passed. Nothing is allocated; a call uses up to 500 KB of stack,
+ * twillgoose_sheet up to 420 KB.
  *
  * Steps are lines of text, each closed by a line feed, their fields parted by one tab: kind, x, y, width, height of its
  * region, inputs (src, alpha, or the number of an earlier step), numbers, and optionally the space that it works in:
@@ -26,15 +26,21 @@
  *     matrix    input m1 .. m20         four rows of five, -256 to 256
  *     saturate  input s                 0 to 1
  *     lumalpha  input
+ *     curve     input, then a transfer for each of R, G, B and A:
+ *               identity
+ *               table n v1 .. vn        n of 1 to 16; 0 to 1, straight lines between them
+ *               discrete n v1 .. vn     n of 1 to 16; 0 to 1, steps
+ *               linear slope intercept  -256 to 256
  *     over, in, out, atop, xor          top bottom
  *     arith     input input k1 .. k4    -256 to 256
  *     merge     1 to 4 inputs           bottom first
  *
  * The space is srgb or linear; without that last field a step works in linear light. The source is sRGB. Each layer is
  * kept in its step's space, and its bytes in the workspace are in it: a step of the other space reads them converted, and
- * so must whoever shows them. With srgb on every step nothing is converted.
+ * so must whoever shows them. With srgb on every step nothing is converted. A curve's space stands after the fourth
+ * transfer; its own linear is never taken for it.
  *
- * Whole fields (the region, a step's number, a flood's bytes) have 1 to 4 digits, no sign and no leading zeros. A number
+ * Whole fields (the region, a step's number, a flood's bytes, a count n) have 1 to 4 digits, no sign and no leading zeros. A number
  * is an optional minus, 1 to 5 digits without leading zeros, optionally a point and 1 to 4 digits; or x and the eight
  * lower-case hexadecimal digits of a single. It is checked as it stands, then rounded to the nearest 1/65,536. A single
  * halfway between two goes to the even one; no decimal lies there.
@@ -43,8 +49,8 @@
  *
  *      0  done
  *     15  a step line is not of the form; so are a sixty-fifth line,    place: the line, from 1
- *         a flood's byte above 255, a merge of 0 or 5 inputs and
- *         another word for the space
+ *         a flood's byte above 255, a merge of 0 or 5 inputs, a count
+ *         n of 0 or above 16, another word for a transfer or the space
  *      1  width or height is 0 or above 1,024
  *      2  the source is not 4 * W * H bytes
  *      3  no step
@@ -61,7 +67,8 @@
  *     14  a colour exceeds its alpha: in the source, then in a          place: the pixel, from 0
  *         redraw in the workspace
  *
- * 21, which readers of lists of step records give after 15, cannot be met here: steps are lines.
+ * Two numbers cannot be met here, where steps are lines: 16, which a step record with a table of 0 or more than 16 entries
+ * is refused with after 7, and 21, which readers of lists of step records give after 15.
  */
 #ifndef TWILLGOOSE_H
 #define TWILLGOOSE_H
@@ -74,7 +81,7 @@ extern "C" {
 #endif
 
 /* The rules that this header describes. */
-#define TWILLGOOSE_RULES 5
+#define TWILLGOOSE_RULES 6
 
 enum {
     TWILLGOOSE_DONE = 0,

@@ -6,7 +6,7 @@ use crate::fault::{Fault, ALL};
 use crate::print::{self, Style};
 use crate::random::Random;
 use crate::step::Region;
-use crate::sums::{in_linear_light, source, EDIT, GLOW, SEED, SHADOW, SIDE};
+use crate::sums::{in_linear_light, source, EDIT, GLOW, KEY, SEED, SHADOW, SIDE};
 use std::time::{Duration, Instant};
 
 /// Comparisons made, and what went wrong in some of them.
@@ -31,23 +31,27 @@ impl Tally {
     }
 }
 
-/// A case at 1,024 × 1,024: the shadow sheet and the glow sheet, in sRGB and in linear light, then random ones of a few
-/// steps.
+/// The large sheets, each in sRGB and in linear light.
+const LARGE: u64 = 6;
+
+/// A case at 1,024 × 1,024: the large sheets, then random ones of a few steps.
 fn large(seed: u64) -> Case {
     let mut random = Random::new(seed ^ 0x1024);
     let pixels = SIDE * SIDE;
     let steps = match seed {
         0 => SHADOW.into(),
         1 => GLOW.into(),
-        2 => in_linear_light(SHADOW).into(),
-        3 => in_linear_light(GLOW).into(),
+        2 => KEY.into(),
+        3 => in_linear_light(SHADOW).into(),
+        4 => in_linear_light(GLOW).into(),
+        5 => in_linear_light(KEY).into(),
         _ => print::steps(&cases::sheet(&mut random, 3, SIDE, SIDE, false), Style::default()).into_bytes(),
     };
     let count = steps.iter().filter(|byte| **byte == b'\n').count();
     let (x, y) = (random.below(SIDE), random.below(SIDE));
     let near = Region { x, y, width: random.below(SIDE - x).min(40), height: random.below(SIDE - y).min(40) };
-    let source = if seed < 4 { source(SEED, pixels) } else { cases::picture(&mut random, pixels) };
-    let rect = if seed < 4 { EDIT } else { near };
+    let source = if seed < LARGE { source(SEED, pixels) } else { cases::picture(&mut random, pixels) };
+    let rect = if seed < LARGE { EDIT } else { near };
     Case {
         width: SIDE,
         height: SIDE,
@@ -65,15 +69,15 @@ fn large_failures(renderer: &dyn Renderer, seed: u64) -> Vec<String> {
     results.into_iter().filter_map(Result::err).collect()
 }
 
-/// Seeded cases until the time is over, about a third of it on large ones; at least the four large sheets and a few hundred
-/// small ones.
+/// Seeded cases until the time is over, about a third of it on large ones; at least the large sheets and a few hundred small
+/// ones.
 pub fn compare(renderer: &dyn Renderer, seconds: u64, seed: u64) -> Tally {
     let mut tally = Tally::default();
     let (start, time) = (Instant::now(), Duration::from_secs(seconds));
     let mut on_large = Duration::ZERO;
     let (mut small, mut big) = (0, 0);
-    while small < 300 || start.elapsed() < time {
-        if big < 4 || 3 * on_large <= start.elapsed() {
+    while big < LARGE || start.elapsed() < time {
+        if big < LARGE || 3 * on_large <= start.elapsed() {
             let began = Instant::now();
             tally.add(&format!("large case {big}"), 2, &large_failures(renderer, big));
             on_large += began.elapsed();

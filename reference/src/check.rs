@@ -1,8 +1,9 @@
-//! Refusal numbers, in the order of checking (RULES 7): 1 to 14.
+//! Refusal numbers, in the order of checking (RULES 7): 1 to 14 and 16.
 
 use crate::fault::Fault;
 use crate::number::judge;
 use crate::step::{Checked, Input, Kind, Region, Step, LONGEST_SIDE, MOST_STEPS};
+use crate::transfer::{Transfer, MOST_ENTRIES};
 use crate::window::box_size;
 
 /// "An answer has a number and a place."
@@ -102,10 +103,21 @@ fn inputs_are_wrong(n: usize, step: &Step, fault: Fault) -> bool {
     used.len() < least || used.len() > most || !used.iter().all(allowed)
 }
 
+/// "A table of 0 or more than 16 entries is 16", a `discrete` one too.
+fn entries_are_wrong(kind: Kind, fault: Fault) -> bool {
+    let Kind::Curve(transfers) = kind else { return false };
+    let least = fault.choose(Fault::NoEntryAllowed, 1, 0);
+    let most = MOST_ENTRIES + fault.choose(Fault::SeventeenEntriesAllowed, 0, 1);
+    let counted = &transfers[..fault.choose(Fault::EntriesOfRedOnly, 4, 1)];
+    let passed = |transfer: &Transfer| fault.is(Fault::DiscreteUncounted) && matches!(transfer, Transfer::Discrete(_));
+    let wrong = |transfer: &Transfer| transfer.entries().is_some_and(|count| count < least || count > most);
+    counted.iter().any(|transfer| wrong(transfer) && !passed(transfer))
+}
+
 /// Each number in its listed order through 8 to 11.
 fn numbers(step: &Step, fault: Fault) -> Result<Vec<i64>, u8> {
     let judged: Vec<Result<i64, u8>> =
-        step.numbers.iter().zip(step.kind.ranges()).map(|(number, range)| judge(*number, *range, fault)).collect();
+        step.numbers.iter().zip(step.kind.ranges()).map(|(number, range)| judge(*number, range, fault)).collect();
     let least = judged.iter().filter_map(|one| one.err()).min();
     match least {
         Some(number) if fault.is(Fault::NumbersCheckByCheck) => Err(number),
@@ -118,19 +130,29 @@ fn is_widest(kind: Kind, units: &[i64]) -> bool {
     kind == Kind::Blur && units.iter().any(|units| box_size(*units, Fault::None) == 60)
 }
 
-/// Within a step 7, then each number through 8 to 11, then 13.
+/// Within a step 7, then 16, then each number through 8 to 11, then 13.
 fn step(n: usize, step: &Step, call: &Call, fault: Fault) -> Result<Checked, u8> {
     let leaves = leaves(step.region, call.width, call.height, fault.is(Fault::EmptyRegionAnywhere));
     if leaves && fault.is(Fault::ThirteenFirst) {
         return Err(13);
     }
+    let entries = entries_are_wrong(step.kind, fault);
+    if entries && fault.is(Fault::SixteenBeforeSeven) {
+        return Err(16);
+    }
     if inputs_are_wrong(n, step, fault) {
         return Err(7);
+    }
+    if entries && !fault.is(Fault::SixteenAfterNumbers) {
+        return Err(16);
     }
     if leaves && fault.is(Fault::ThirteenBeforeNumbers) {
         return Err(13);
     }
     let units = numbers(step, fault)?;
+    if entries {
+        return Err(16);
+    }
     if fault.is(Fault::TwelveGiven) && is_widest(step.kind, &units) {
         return Err(12);
     }

@@ -54,6 +54,12 @@ fn reach(step: &Checked, rect: Rect, fault: Fault) -> Rect {
             let (above, below) = radius_spread(units[1] / UNIT, fault);
             rect.grown(left, right, above, below)
         }
+        // "With the redraw rectangle of its input."
+        Kind::Curve(_) => match fault {
+            Fault::CurveRectWhole => rect.grown(1024, 1024, 1024, 1024),
+            Fault::CurveRectEmpty => Rect::EMPTY,
+            _ => rect,
+        },
         _ => rect,
     }
 }

@@ -9,7 +9,8 @@ macro_rules! faults {
         /// Every fault that the comparison must find, and what it does.
         pub const ALL: &[(Fault, &str)] = &[$((Fault::$name, $text),)*];
 
-        /// Faults of lent lists. No call of the library takes a list, so that no comparison sees them; tests/lists.rs does.
+        /// Faults of lent lists and of records that no text is read into. No call of the library takes a list, so that no
+        /// comparison sees them; tests/lists.rs does.
         pub const OF_LISTS: &[(Fault, &str)] = &[$((Fault::$list, $list_text),)*];
     };
 }
@@ -55,6 +56,25 @@ faults! {{
     SaturateDown: "saturate's coefficients are rounded down",
     SaturateToEven: "saturate's coefficients are rounded as numbers are",
     OtherLuminance: "luminance takes saturate's coefficients",
+    // Component transfer
+    TablePartTooMany: "a table of n entries is interpolated over n parts",
+    DiscreteEndForgotten: "discrete has no entry for 255",
+    DiscretePartTooFew: "discrete has one part less than entries",
+    DiscreteInterpolated: "discrete is interpolated as a table is",
+    CurvePartBy256: "an entry is found by c·n ÷ 256",
+    EntriesToBytes: "a table's entries are rounded to bytes first",
+    OneEntryIsIdentity: "a table of one entry changes nothing",
+    InterceptTimes256: "linear takes its intercept times 256",
+    CurveDown: "curves round down",
+    CurveHalvesDown: "a curve's halves go down",
+    CurveHalvesEven: "a curve's halves go to the even byte",
+    CurveWraps: "curves wrap instead of limiting",
+    CurveOnPremultiplied: "curves work on premultiplied colours",
+    CurvedByOldAlpha: "curves premultiply by the old alpha",
+    AlphaUncurved: "a curve leaves out alpha",
+    TransparentUncurved: "a curve passes over transparent pixels",
+    RedAndBlueExchanged: "the curves of red and blue are exchanged",
+    RedForAllColours: "the curve of red serves all colours",
     // Working spaces
     ConvertedPremultiplied: "premultiplied colours are converted",
     ConvertedBack: "a conversion takes the table of the other direction",
@@ -65,6 +85,7 @@ faults! {{
     SourceIsLinear: "the source is linear",
     LayersAreSrgb: "every layer is read as sRGB",
     OffsetUnconverted: "offset reads unconverted pixels",
+    CurveUnconverted: "a curve reads unconverted pixels",
     MergeUnconverted: "merge reads unconverted pixels",
     // Work of the steps
     AlphaKeepsColour: "the source's alpha keeps its colours",
@@ -90,6 +111,8 @@ faults! {{
     RadiusSpreadLessRight: "a radius grows the rectangle by r left and r − 1 right",
     RadiusSpreadMore: "a radius grows the rectangle by r + 1 on each side",
     OffsetRectStays: "offset leaves the rectangle where it is",
+    CurveRectWhole: "a curve grows the rectangle to the whole canvas",
+    CurveRectEmpty: "a curve's rectangle is empty",
     EmptyGrows: "an empty rectangle grows",
     EmptyJoined: "empty rectangles are joined too",
     FirstInputOnly: "only the first input's rectangle counts",
@@ -154,6 +177,13 @@ faults! {{
     EmptySpace: "an empty field is accepted as the space",
     SpaceTwice: "a space before the last field is accepted",
     FourWithoutSpace: "a merge of four inputs takes no space",
+    NoEntryRead: "a count of 0 entries is read",
+    SeventeenEntriesRead: "a count of 17 entries is read",
+    OwnLinearIsSpace: "a curve's own `linear` is read as its space",
+    AlphaMayBeAbsent: "a curve without a word for alpha is read",
+    InterceptMayBeAbsent: "`linear` without an intercept is read",
+    TransferOfAnyCase: "the words of a curve heed no case",
+    GammaIsIdentity: "`gamma` is read as `identity`",
     SevenBeforeFifteen: "7 is given before 15",
     LongTextRead: "a text over 65,536 bytes is read",
     LongestTextRefused: "a text of 65,536 bytes is refused at place 0",
@@ -169,6 +199,12 @@ faults! {{
     RestBlanked: "records past the steps are blanked",
     WholeListCounts: "a list counts whole, whatever its count",
     SixtyFiveCounted: "65 steps are not refused 3",
+    NoEntryAllowed: "a table of 0 entries is taken as identity",
+    SeventeenEntriesAllowed: "a table of 17 entries is accepted",
+    DiscreteUncounted: "16 is not checked for discrete",
+    EntriesOfRedOnly: "16 is checked for red only",
+    SixteenBeforeSeven: "16 is checked before 7",
+    SixteenAfterNumbers: "16 is checked after 8 to 11",
 }}
 
 impl Fault {

@@ -7,6 +7,7 @@ use crate::pixel::{arithmetic, composite, flood, luminance, matrix, merge, satur
 use crate::rect::Rect;
 use crate::space::{self, Space};
 use crate::step::{Checked, Input, Kind};
+use crate::transfer::{curve, maps};
 use crate::window::{blur, extreme};
 
 /// What stands at every input: the source, its alpha, and the layers, each in its own space.
@@ -38,6 +39,7 @@ impl Stand {
         let (space, picture) = self.at(input, fault);
         let stored = match step.kind {
             Kind::Offset => fault.is(Fault::OffsetUnconverted),
+            Kind::Curve(_) => fault.is(Fault::CurveUnconverted),
             Kind::Merge => fault.is(Fault::MergeUnconverted),
             _ => false,
         };
@@ -90,6 +92,10 @@ pub fn work(step: &Checked, stand: &Stand, fault: Fault) -> Picture {
         Kind::Lumalpha => {
             let m = luminance(fault);
             Picture::of(width, height, |x, y| matrix(&m, inputs[0].at(x, y), fault))
+        }
+        Kind::Curve(transfers) => {
+            let maps = maps(transfers, units, fault);
+            Picture::of(width, height, |x, y| curve(&maps, inputs[0].at(x, y), fault))
         }
         Kind::Composite(operator) => {
             Picture::of(width, height, |x, y| composite(operator, inputs[0].at(x, y), inputs[1].at(x, y), fault))

@@ -4,11 +4,12 @@
 //! other languages shows as a difference. Quotations in comments are the words of the request
 //! that docs/RULES.md restates.
 //!
-//! - `wide`, `number`: exact values, refusals 8 to 11, units
-//! - `pixel`, `space`, `window`, `filter`: the arithmetic of one pixel, working spaces, neighbourhoods, the work of each kind
+//! - `wide`, `ratio`, `number`: exact values, refusals 8 to 11, units
+//! - `pixel`, `space`, `transfer`, `window`, `filter`: the arithmetic of one pixel, working spaces, component transfer,
+//!   neighbourhoods, the work of each kind
 //! - `rect`, `damage`: rectangles of a redraw and their count
 //! - `step`, `check`, `render`: sheets, the refusal table, the entry points
-//! - `line`, `text`, `print`: the text form, the reader into a lent list, and what `sheet` prints
+//! - `line`, `curve_line`, `text`, `print`: the text form, the reader into a lent list, and what `sheet` prints
 //! - `fault`: wrong variants of the rules
 //! - `random`, `cases`: seeded sheets, pictures, calls and texts
 //! - `compare`, `budget`, `library`, `program`, `sums`: the comparison, its runs, what it is run against
@@ -17,6 +18,7 @@ pub mod budget;
 pub mod cases;
 pub mod check;
 pub mod compare;
+mod curve_line;
 pub mod damage;
 pub mod fault;
 pub mod filter;
@@ -29,11 +31,13 @@ pub mod pixel;
 pub mod print;
 pub mod program;
 pub mod random;
+pub mod ratio;
 pub mod rect;
 pub mod render;
 pub mod space;
 pub mod step;
 pub mod sums;
 pub mod text;
+pub mod transfer;
 pub mod wide;
 pub mod window;

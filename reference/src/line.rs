@@ -1,9 +1,11 @@
 //! One line of a text (RULES 9.2 to 9.5): its fields, and the step, row or canvas that they are.
 
+use crate::curve_line::transfers;
 use crate::fault::Fault;
 use crate::number::Number;
 use crate::space::{Space, SPACES};
 use crate::step::{Input, Kind, Region, Step, KINDS};
+use crate::transfer::Transfer;
 
 /// "`canvas` W H (0 to 16 each)."
 pub const LONGEST_TEXT_SIDE: usize = 16;
@@ -24,7 +26,7 @@ fn without_leading_zeros(field: &[u8], most: usize, fault: Fault) -> Option<i64>
 }
 
 /// "Whole fields have 1 to 4 digits, no sign and no leading zeros."
-fn whole(field: &[u8], fault: Fault) -> Option<usize> {
+pub fn whole(field: &[u8], fault: Fault) -> Option<usize> {
     without_leading_zeros(field, 4, fault).map(|n| n as usize)
 }
 
@@ -44,7 +46,7 @@ fn hex(field: &[u8], count: usize, fault: Fault) -> Option<u32> {
 
 /// "An optional minus, 1 to 5 digits without leading zeros, optionally a point and 1 to 4 digits; or `x` and eight
 /// lower-case hex digits, the bits of a single."
-fn number(field: &[u8], fault: Fault) -> Option<Number> {
+pub fn number(field: &[u8], fault: Fault) -> Option<Number> {
     if let Some(bits) = field.strip_prefix(b"x") {
         return hex(bits, 8, fault).map(Number::Single);
     }
@@ -91,7 +93,7 @@ fn flood_byte(field: &[u8], fault: Fault) -> Option<u8> {
 }
 
 /// The word of a working space.
-fn space(field: &[u8], fault: Fault) -> Option<Space> {
+pub fn space(field: &[u8], fault: Fault) -> Option<Space> {
     let same = |word: &str| {
         let any_case = fault.is(Fault::SpaceOfAnyCase) && field.eq_ignore_ascii_case(word.as_bytes());
         let long = fault.is(Fault::SpaceAsInCss) && field == format!("{word}RGB").as_bytes();
@@ -103,10 +105,11 @@ fn space(field: &[u8], fault: Fault) -> Option<Space> {
     SPACES.iter().find(|(word, _)| same(word)).map(|(_, space)| *space)
 }
 
-/// How many fields a step of the kind has without its space; nothing for a merge, which has 6 to 9.
+/// How many fields a step of the kind has without its space, and without the words and counts of a curve; nothing for a
+/// merge, which has 6 to 9.
 fn fixed_fields(kind: Kind) -> Option<usize> {
     let bytes = if kind == Kind::Flood { 3 } else { 0 };
-    (kind != Kind::Merge).then_some(5 + bytes + kind.inputs().0 + kind.ranges().len())
+    (kind != Kind::Merge).then_some(5 + bytes + kind.inputs().0 + kind.ranges().count())
 }
 
 /// "An optional last field `srgb` or `linear`; absent now means linear": the space, and the fields before it. A field after
@@ -126,11 +129,21 @@ fn spaced<'a, 'b>(kind: Kind, fields: &'a [&'b [u8]], fault: Fault) -> Option<(S
     }
 }
 
+/// The kind of a line, and its fields without the words and counts of a curve.
+fn kind_of(fields: Vec<&[u8]>, fault: Fault) -> Option<(Kind, Vec<&[u8]>)> {
+    let kind = KINDS.iter().find(|(word, _)| word.as_bytes() == fields[0])?.1;
+    let Kind::Curve(_) = kind else { return Some((kind, fields)) };
+    let (transfers, plain) = transfers(&fields, fault)?;
+    Some((Kind::Curve(transfers), plain))
+}
+
 /// "A step is its kind, x, y, width, height, inputs, numbers", and its working space.
 pub fn step(line: &[u8], fault: Fault) -> Option<Step> {
-    let fields = fields(line);
-    let kind = KINDS.iter().find(|(word, _)| word.as_bytes() == fields[0])?.1;
-    let (space, fields) = spaced(kind, &fields, fault)?;
+    let (kind, fields) = kind_of(fields(line), fault)?;
+    let (mut space, fields) = spaced(kind, &fields, fault)?;
+    if matches!(kind, Kind::Curve(all) if all.contains(&Transfer::Linear)) && fault.is(Fault::OwnLinearIsSpace) {
+        space = Space::Linear;
+    }
     if fields.len() < 5 {
         return None;
     }
@@ -139,8 +152,7 @@ pub fn step(line: &[u8], fault: Fault) -> Option<Step> {
     let rest = &fields[5..];
 
     let bytes = if kind == Kind::Flood { 3 } else { 0 };
-    let ranges = kind.ranges().len();
-    let inputs = rest.len().checked_sub(bytes + ranges)?;
+    let inputs = rest.len().checked_sub(bytes + kind.ranges().count())?;
     let (least, most) = kind.inputs();
     let most = if kind == Kind::Merge { most + fault.choose(Fault::FiveMerged, 0, 1) } else { most };
     if inputs < least || inputs > most {

@@ -22,11 +22,11 @@ fn down(over: i128, under: i128) -> i128 {
 }
 
 /// A channel as it is stored. The rules stay within a byte on valid pixels; a seeded fault may wrap.
-fn byte(channel: i128) -> u8 {
+pub fn byte(channel: i128) -> u8 {
     channel.rem_euclid(256) as u8
 }
 
-fn limited(channel: i128) -> i128 {
+pub fn limited(channel: i128) -> i128 {
     channel.clamp(0, 255)
 }
 

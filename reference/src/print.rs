@@ -8,6 +8,7 @@ use crate::render::{render, Sheet};
 use crate::space::{self, Space};
 use crate::step::{Input, Kind, Step};
 use crate::text::{read, Limits, Reading, LIMITS};
+use crate::transfer::Transfer;
 
 /// "It prints `ok` and the last layer as `row` lines, or one line: `refused`, number, place, parted by tabs."
 pub fn sheet(text: &[u8], fault: Fault) -> Vec<u8> {
@@ -69,6 +70,17 @@ pub struct Style {
     pub named: u64,
 }
 
+/// A step's numbers as fields; those of a curve with its words and counts.
+fn numbers(step: &Step, style: Style) -> Vec<String> {
+    let mut written = step.numbers.iter().map(|n| number(*n, style.places));
+    let Kind::Curve(transfers) = step.kind else { return written.collect() };
+    let channel = |transfer: Transfer| {
+        let head = [transfer.word().to_string()].into_iter().chain(transfer.entries().map(|count| count.to_string()));
+        head.chain(written.by_ref().take(transfer.numbers().1)).collect::<Vec<String>>()
+    };
+    transfers.into_iter().flat_map(channel).collect()
+}
+
 /// Step n as a line, its line feed included.
 pub fn step(step: &Step, n: usize, style: Style) -> String {
     let region = step.region;
@@ -82,7 +94,7 @@ pub fn step(step: &Step, n: usize, style: Style) -> String {
     if step.kind == Kind::Flood {
         fields.extend(step.colour.map(|byte| byte.to_string()));
     }
-    fields.extend(step.numbers.iter().map(|n| number(*n, style.places)));
+    fields.extend(numbers(step, style));
     if step.space == Space::Srgb || style.named >> (n % 64) & 1 == 1 {
         fields.push(step.space.word().to_string());
     }

@@ -3,6 +3,7 @@
 use crate::number::{Number, Range};
 use crate::pixel::Operator;
 use crate::space::Space;
+use crate::transfer::{Transfer, Transfers};
 
 /// "Raise the limit from 16 to 64": a sheet has 1 to 64 steps.
 pub const MOST_STEPS: usize = 64;
@@ -31,13 +32,17 @@ pub enum Kind {
     Matrix,
     Saturate,
     Lumalpha,
+    Curve(Transfers),
     Composite(Operator),
     Arithmetic,
     Merge,
 }
 
-/// The kinds and their words in text.
-pub const KINDS: [(&str, Kind); 15] = [
+/// A curve that changes nothing.
+const NO_CURVE: Kind = Kind::Curve([Transfer::Identity; 4]);
+
+/// The kinds and their words in text. The one curve stands for all.
+pub const KINDS: [(&str, Kind); 16] = [
     ("flood", Kind::Flood),
     ("offset", Kind::Offset),
     ("blur", Kind::Blur),
@@ -46,6 +51,7 @@ pub const KINDS: [(&str, Kind); 15] = [
     ("matrix", Kind::Matrix),
     ("saturate", Kind::Saturate),
     ("lumalpha", Kind::Lumalpha),
+    ("curve", NO_CURVE),
     ("over", Kind::Composite(Operator::Over)),
     ("in", Kind::Composite(Operator::In)),
     ("out", Kind::Composite(Operator::Out)),
@@ -87,24 +93,30 @@ impl Step {
     };
 }
 
-const ZERO_TO_ONE: Range = Range { low: 0, high: 1, whole: false };
+pub const ZERO_TO_ONE: Range = Range { low: 0, high: 1, whole: false };
 const OFFSET: Range = Range { low: -1024, high: 1024, whole: true };
 const DEVIATION: Range = Range { low: 0, high: 32, whole: false };
 const RADIUS: Range = Range { low: 0, high: 64, whole: true };
-const COEFFICIENT: Range = Range { low: -256, high: 256, whole: false };
+pub const COEFFICIENT: Range = Range { low: -256, high: 256, whole: false };
 
 impl Kind {
-    /// Its numbers in order, and what is allowed for each (RULES 5.1).
-    pub fn ranges(self) -> &'static [Range] {
+    /// Its numbers in order (RULES 5.1): what is allowed for them, and how many of such there are.
+    fn numbers(self) -> Vec<(Range, usize)> {
         match self {
-            Kind::Flood | Kind::Saturate => &[ZERO_TO_ONE],
-            Kind::Offset => &[OFFSET; 2],
-            Kind::Blur => &[DEVIATION; 2],
-            Kind::Erode | Kind::Dilate => &[RADIUS; 2],
-            Kind::Matrix => &[COEFFICIENT; 20],
-            Kind::Arithmetic => &[COEFFICIENT; 4],
-            Kind::Lumalpha | Kind::Composite(_) | Kind::Merge => &[],
+            Kind::Flood | Kind::Saturate => vec![(ZERO_TO_ONE, 1)],
+            Kind::Offset => vec![(OFFSET, 2)],
+            Kind::Blur => vec![(DEVIATION, 2)],
+            Kind::Erode | Kind::Dilate => vec![(RADIUS, 2)],
+            Kind::Matrix => vec![(COEFFICIENT, 20)],
+            Kind::Curve(transfers) => transfers.map(Transfer::numbers).to_vec(),
+            Kind::Arithmetic => vec![(COEFFICIENT, 4)],
+            Kind::Lumalpha | Kind::Composite(_) | Kind::Merge => Vec::new(),
         }
+    }
+
+    /// What is allowed for each. A record may claim any count of entries, so that nobody walks them all.
+    pub fn ranges(self) -> impl Iterator<Item = Range> {
+        self.numbers().into_iter().flat_map(|(range, count)| std::iter::repeat_n(range, count))
     }
 
     /// How many inputs a step of the kind has, at least and at most.
@@ -118,7 +130,8 @@ impl Kind {
     }
 
     pub fn word(self) -> &'static str {
-        KINDS.iter().find(|(_, kind)| *kind == self).expect("every kind has a word").0
+        let kind = if matches!(self, Kind::Curve(_)) { NO_CURVE } else { self };
+        KINDS.iter().find(|(_, one)| *one == kind).expect("every kind has a word").0
     }
 }
 

@@ -31,6 +31,13 @@ arith\t0\t0\t1024\t1024\t3\tsrc\t0\t0.75\t0.25\t0.01\tsrgb
 over\t0\t0\t1024\t1024\tsrc\t4\tsrgb
 ";
 
+/// A green screen: an alpha from the colours, made steeper by a curve that all channels have a part in, over a flood.
+pub const KEY: &str = "matrix\t0\t0\t1024\t1024\tsrc\t1\t0\t0\t0\t0\t0\t1\t0\t0\t0\t0\t0\t1\t0\t0\t1\t-2\t1\t1\t0\tsrgb
+curve\t0\t0\t1024\t1024\t0\ttable\t4\t0\t0.3\t0.8\t1\tdiscrete\t5\t0\t0.2\t0.5\t0.7\t1\tidentity\tlinear\t1.5\t-0.25\tsrgb
+flood\t0\t0\t1024\t1024\t32\t64\t160\t1\tsrgb
+over\t0\t0\t1024\t1024\t1\t2\tsrgb
+";
+
 /// The same lines without their spaces: linear is the default.
 pub fn in_linear_light(lines: &str) -> String {
     lines.replace("\tsrgb\n", "\n")
@@ -111,6 +118,8 @@ pub fn all(renderer: &dyn Renderer) -> String {
         + &line("source edited", &edited(&source))
         + &sheet(renderer, "shadow", SHADOW)
         + &sheet(renderer, "glow", GLOW)
+        + &sheet(renderer, "key", KEY)
         + &sheet(renderer, "linear shadow", &in_linear_light(SHADOW))
         + &sheet(renderer, "linear glow", &in_linear_light(GLOW))
+        + &sheet(renderer, "linear key", &in_linear_light(KEY))
 }

@@ -18,7 +18,7 @@ fn space(line: &str) -> Option<Space> {
     read.ok().map(|steps| steps[0].space)
 }
 
-const KINDS: [&str; 10] = [
+const KINDS: [&str; 12] = [
     "flood 0 0 1 1 1 2 3 0.5",
     "offset 0 0 1 1 src 1 0",
     "blur 0 0 1 1 src 1 0",
@@ -26,6 +26,8 @@ const KINDS: [&str; 10] = [
     "matrix 0 0 1 1 src 1 2 3 4 5 6 7 8 9 10 11 12 13 14 15 16 17 18 19 20",
     "saturate 0 0 1 1 src 1",
     "lumalpha 0 0 1 1 src",
+    "curve 0 0 1 1 src identity table 2 0 1 discrete 1 0.5 linear 1 0",
+    "curve 0 0 1 1 src identity identity identity identity",
     "over 0 0 1 1 src alpha",
     "arith 0 0 1 1 src alpha 1 2 3 4",
     "merge 0 0 1 1 src",
@@ -120,7 +122,7 @@ fn the_default_is_another_space() {
 fn sheets_print_their_outputs() {
     let root = Path::new(env!("CARGO_MANIFEST_DIR")).join("..");
     let mut seen = 0;
-    for folder in ["examples", "tests/examples"] {
+    for folder in ["examples", "tests/examples", "tests/curves"] {
         for file in std::fs::read_dir(root.join(folder)).expect("a folder") {
             let path = file.expect("a file").path();
             if path.extension().is_some_and(|ending| ending == "sheet") {
@@ -135,7 +137,7 @@ fn sheets_print_their_outputs() {
             }
         }
     }
-    assert!(seen >= 20);
+    assert!(seen >= 50);
 }
 
 /// The words of RULES 4.5: two roundings for a flood, none for what is in its space already.

@@ -164,14 +164,15 @@ fn longest_text() {
     assert_eq!(print::sheet(&text, Fault::None), b"refused\t15\t0\n");
 }
 
-/// No text of the form comes near the limit: the longest has 64 steps of 280 bytes and 16 rows of 148.
+/// No text of the form reaches the limit: the longest has 64 curves of 855 bytes and 16 rows of 148.
 #[test]
 fn longest_text_of_the_form() {
-    let step = format!("matrix 9999 9999 9999 9999 alpha{} linear\n", " -99999.9999".repeat(20));
+    let channel = format!(" discrete 16{}", " -99999.9999".repeat(16));
+    let step = format!("curve 9999 9999 9999 9999 alpha{} linear\n", channel.repeat(4));
     let row = format!("row{}\n", " 00000000".repeat(16));
     let text = format!("canvas 16 16\n{}{}", step.repeat(64), row.repeat(16));
-    assert_eq!((step.len(), row.len(), text.len()), (280, 148, 20_301));
-    refused(&text, 10, 0);
+    assert_eq!((step.len(), row.len(), text.len()), (855, 148, 57_101));
+    refused(&text, 9, 0);
 }
 
 #[test]
@@ -184,7 +185,7 @@ fn what_is_written_is_read() {
     }
 }
 
-/// The list of texts has every refusal that a text can earn.
+/// The list of texts has every refusal that a text can earn; 16 is none of them.
 #[test]
 fn texts_of_every_answer() {
     let mut random = Random::new(1);
@@ -196,5 +197,6 @@ fn texts_of_every_answer() {
         let begin = format!("refused\t{number}\t");
         assert!(answers.iter().filter(|answer| answer.starts_with(begin.as_bytes())).count() >= 5, "{number}");
     }
+    assert!(!answers.iter().any(|answer| answer.starts_with(b"refused\t16\t")));
     assert!(answers.iter().filter(|answer| answer.starts_with(b"ok\n")).count() > 500);
 }

@@ -23,11 +23,14 @@ fn linear(sheet: &Sheet) -> Sheet {
 }
 
 /// What is also measured in linear light, beside itself in sRGB. They read the source, which is converted.
-const LINEAR: [&str; 6] = ["offset", "blur 1.5", "over", "merge of 4", "shadow sheet", "glow sheet"];
+const LINEAR: [&str; 7] = ["offset", "blur 1.5", "curve", "over", "merge of 4", "shadow sheet", "glow sheet"];
 
 /// A sepia that also thins out: none of its numbers is 0.
 const MATRIX: &str = "matrix @ src 0.393 0.769 0.189 0.01 0.02 0.349 0.686 0.168 0.01 0.01 0.272 0.534 0.131 0.01 -0.02 \
                       0.05 0.05 0.05 0.8 0.01";
+
+/// A map for each channel, of every kind but identity.
+pub const MAPS: &str = "table 5 0 0.15 0.5 0.85 1 discrete 6 0 0.2 0.4 0.6 0.8 1 linear 1.2 -0.1 table 3 0 0.6 1";
 
 /// A drop shadow: the alpha blurred and moved, tinted, under the picture.
 const SHADOW: [&str; 5] = ["blur @ alpha 6 4.5", "offset @ 0 12 8", "flood @ 16 16 64 0.6", "in @ 2 1", "merge @ 3 src"];
@@ -63,6 +66,7 @@ pub fn all(side: usize) -> Vec<Sheet> {
     sheets.push(one("matrix", true, MATRIX));
     sheets.push(one("saturate", false, "saturate @ src 0.5"));
     sheets.push(one("luminance to alpha", false, "lumalpha @ src"));
+    sheets.push(one("curve", true, &format!("curve @ src {MAPS}")));
     for kind in ["over", "in", "out", "atop", "xor"] {
         sheets.push(one(kind, kind == "over", &format!("{kind} @ src alpha")));
     }

@@ -27,7 +27,15 @@ fn every_sheet_is_drawn_the_same() {
 fn a_difference_is_found() {
     let source = picture(64, ONE);
     let edited = edited(64, &source);
-    let faults = [Fault::BoxDown, Fault::CompositeHalf, Fault::ScratchLeft, Fault::MergeTopDown, Fault::TableDown, Fault::AbsentIsSrgb];
+    let faults = [
+        Fault::BoxDown,
+        Fault::CompositeHalf,
+        Fault::ScratchLeft,
+        Fault::MergeTopDown,
+        Fault::TableDown,
+        Fault::AbsentIsSrgb,
+        Fault::CurveDown,
+    ];
     for fault in faults {
         let differs = |sheet: &super::sheets::Sheet| same::rendered(&Desk::new(64, &sheet.steps, &source), &Second(fault), &Plain).is_err();
         assert!(all(64).iter().any(differs));

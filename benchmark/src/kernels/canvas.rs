@@ -1,6 +1,9 @@
 //! The pictures and work rows that the kernels are measured on.
-use super::{prepare_arithmetic, prepare_convert, prepare_luminance, prepare_saturate, prepare_unpremultiply, Coefficients};
+use super::{prepare_arithmetic, prepare_convert, prepare_curve, prepare_luminance, prepare_saturate, prepare_unpremultiply, Coefficients};
+use crate::calls::sheets::MAPS;
 use crate::picture::{picture, ONE, OTHER};
+use crate::plain::curve::{maps, Curve};
+use crate::plain::units;
 
 pub const HALF: Coefficients = [0, 32768, 32768, 0];
 pub const SATURATION: u64 = 32768;
@@ -27,11 +30,16 @@ pub struct Canvas {
     pub luminance: Box<[u32; 768]>,
     pub to_linear: Box<[u8; 65536]>,
     pub to_srgb: Box<[u8; 65536]>,
+    pub maps: Box<[u8; 1024]>,
+    pub curve: Box<[u8; 196608]>,
+    /// The plain version's.
+    pub plain_curve: Curve,
 }
 
 impl Canvas {
     pub fn new(side: usize) -> Canvas {
         let (row, size) = (4 * side, 4 * side * side);
+        let maps = maps(&MAPS.split(' ').collect::<Vec<_>>(), units);
         let mut canvas = Canvas {
             side,
             a: picture(side, ONE),
@@ -51,6 +59,9 @@ impl Canvas {
             luminance: Box::new([0; 768]),
             to_linear: Box::new([0; 65536]),
             to_srgb: Box::new([0; 65536]),
+            maps: Box::new(maps.concat().try_into().expect("four maps")),
+            curve: Box::new([0; 196608]),
+            plain_curve: Curve::new(maps, side * side, None),
         };
         prepare_arithmetic(HALF, &mut canvas.products);
         prepare_saturate(SATURATION, &mut canvas.weights);
@@ -58,6 +69,7 @@ impl Canvas {
         prepare_luminance(&mut canvas.luminance);
         prepare_convert(true, &mut canvas.to_linear);
         prepare_convert(false, &mut canvas.to_srgb);
+        prepare_curve(&canvas.maps, &mut canvas.curve);
         canvas
     }
 }

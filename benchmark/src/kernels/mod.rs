@@ -78,6 +78,18 @@ extern "C" {
     );
     fn twillgoose_kernel_prepare_convert(linear: bool, table: *mut u8, table_len: usize);
     fn twillgoose_kernel_convert_row(linear: bool, row: *mut u8, row_len: usize, count: usize, table: *const u8, table_len: usize);
+    fn twillgoose_kernel_prepare_curve(maps: *const u8, maps_len: usize, tables: *mut u8, tables_len: usize);
+    fn twillgoose_kernel_curve(
+        maps: *const u8,
+        maps_len: usize,
+        tables: *const u8,
+        tables_len: usize,
+        src: *const u8,
+        src_len: usize,
+        dst: *mut u8,
+        dst_len: usize,
+        n: usize,
+    );
     fn twillgoose_kernel_blur_lines(
         buf: *mut u8,
         buf_len: usize,
@@ -192,6 +204,20 @@ pub fn prepare_convert(linear: bool, table: &mut [u8; 65536]) {
 /// In place, by the table of that conversion.
 pub fn convert_row(linear: bool, row: &mut [u8], table: &[u8; 65536]) {
     unsafe { twillgoose_kernel_convert_row(linear, row.as_mut_ptr(), row.len(), row.len() / 4, table.as_ptr(), table.len()) }
+}
+
+/// The tables of a component transfer, for R, G and B in turn: place 256·a + c has the new colour of the colour c at the alpha a. The maps are
+/// those of R, G, B and A in turn.
+pub fn prepare_curve(maps: &[u8; 1024], tables: &mut [u8; 196608]) {
+    unsafe { twillgoose_kernel_prepare_curve(maps.as_ptr(), maps.len(), tables.as_mut_ptr(), tables.len()) }
+}
+
+/// By the tables of these maps.
+pub fn curve_row(maps: &[u8; 1024], tables: &[u8; 196608], src: &[u8], dst: &mut [u8]) {
+    let m = dst.len();
+    assert!(m.is_multiple_of(4) && src.len() == m);
+    let (p, t, d) = (maps.as_ptr(), tables.as_ptr(), dst.as_mut_ptr());
+    unsafe { twillgoose_kernel_curve(p, 1024, t, 196608, src.as_ptr(), m, d, m, m / 4) }
 }
 
 /// From the count lines of n bytes at the start of buf to the count lines after them.

@@ -77,6 +77,21 @@ fn convert_plainly(c: &mut Canvas, to: Space) {
     rows(c, |src, dst| conversion.row(src, dst));
 }
 
+/// As a step works it: the row is copied to a work row, then mapped.
+fn curve(c: &mut Canvas) {
+    for (src, dst) in c.a.chunks_exact(4 * c.side).zip(c.out.chunks_exact_mut(4 * c.side)) {
+        kernels::copy(src, &mut c.row_a);
+        kernels::curve_row(&c.maps, &c.curve, &c.row_a, dst);
+    }
+}
+
+/// The same by the plain version, which reads its input where it lies.
+fn curve_plainly(c: &mut Canvas) {
+    for (src, dst) in c.a.chunks_exact(4 * c.side).zip(c.out.chunks_exact_mut(4 * c.side)) {
+        c.plain_curve.row(src, dst);
+    }
+}
+
 /// Three passes along rows, eight rows at a time, then three down. The result is the second picture of `pair`.
 fn blur(c: &mut Canvas, d: usize) {
     let (side, row) = (c.side, 4 * c.side);
@@ -130,6 +145,9 @@ pub fn all() -> Vec<Step> {
     steps.push(step("arithmetic", 14.0, arithmetic));
     steps.push(step("matrix (saturate)", 16.0, saturate));
     steps.push(step("luminance to alpha", 7.0, luminance));
+    steps.push(step("curve", None, curve));
+    steps.push(step("curve, plain version", None, curve_plainly));
+    steps.push(step("tables of a curve", None, |c| kernels::prepare_curve(&c.maps, &mut c.curve)));
     steps.push(step("conversion to linear", None, |c| convert(c, true)));
     steps.push(step("conversion to linear, plain version", None, |c| convert_plainly(c, Space::Linear)));
     steps.push(step("conversion to sRGB", None, |c| convert(c, false)));

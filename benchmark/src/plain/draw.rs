@@ -2,6 +2,7 @@
 use super::arith::Arithmetic;
 use super::blur::Blur;
 use super::composite;
+use super::curve::{Curve, Maps};
 use super::inputs::Inputs;
 use super::lines;
 use super::matrix::{luminance_row, Matrix, Straight};
@@ -49,6 +50,17 @@ fn offset(inputs: &Inputs, input: Input, [dx, dy]: [i32; 2], rect: Rect, out: &m
     }
 }
 
+fn curve(inputs: &Inputs, input: Input, maps: Maps, rect: Rect, out: &mut [u8]) {
+    let curve = Curve::new(maps, rect.area() as usize, inputs.conversion_of(input));
+    if !curve.converts() {
+        return one(inputs, input, rect, out, |src, dst| curve.row(src, dst));
+    }
+    let mut room = Vec::new();
+    for (y, dst) in rows(out, inputs.width, rect) {
+        curve.row(inputs.kept(input, y, rect.columns(), &mut room), dst);
+    }
+}
+
 fn merge(inputs: &Inputs, all: &[Input], rect: Rect, out: &mut [u8]) {
     let mut room = Vec::new();
     for (y, dst) in rows(out, inputs.width, rect) {
@@ -82,6 +94,7 @@ pub fn draw(step: &Step, rect: Rect, inputs: &Inputs, out: &mut [u8], scratch: &
             let straight = Straight::new();
             one(inputs, input(0), rect, out, |src, dst| luminance_row(&straight, src, dst));
         }
+        Work::Curve(ref maps) => curve(inputs, input(0), **maps, rect, out),
         Work::Composite(operator) => {
             two(inputs, [input(0), input(1)], rect, out, |a, b, dst| composite::row(operator, a, b, dst));
         }

@@ -26,24 +26,37 @@ pub fn is_converted(input: Input, steps: &[Step], space: Space) -> bool {
 }
 
 impl Inputs<'_> {
-    /// Some columns of a row. They are read where they lie, but for the source's alpha and for what is converted, which are
-    /// made in `room`.
-    pub fn row<'b>(&'b self, input: Input, y: usize, columns: Range<usize>, room: &'b mut Vec<u8>) -> &'b [u8] {
-        let at = 4 * (y * self.width + columns.start);
+    /// Some columns of a row of the source or of a layer.
+    fn part(&self, input: Input, y: usize, columns: Range<usize>) -> &[u8] {
         let picture = match input {
             Input::Source | Input::Alpha => self.source,
             Input::Layer(n) => &self.layers[4 * self.width * self.height * n..],
         };
-        let row = &picture[at..][..4 * columns.len()];
-        let conversion = self.conversion.as_ref().filter(|_| is_converted(input, self.steps, self.space));
-        if !matches!(input, Input::Alpha) && conversion.is_none() {
+        &picture[4 * (y * self.width + columns.start)..][..4 * columns.len()]
+    }
+
+    /// Into the step's space, where the input is in the other one.
+    pub fn conversion_of(&self, input: Input) -> Option<&Conversion> {
+        self.conversion.as_ref().filter(|_| is_converted(input, self.steps, self.space))
+    }
+
+    /// Some columns of a row. They are read where they lie, but for the source's alpha and for what is converted, which are
+    /// made in `room`.
+    pub fn row<'b>(&'b self, input: Input, y: usize, columns: Range<usize>, room: &'b mut Vec<u8>) -> &'b [u8] {
+        let Some(conversion) = self.conversion_of(input) else { return self.kept(input, y, columns, room) };
+        let row = self.part(input, y, columns);
+        room.resize(row.len(), 0);
+        conversion.row(row, room);
+        room
+    }
+
+    /// The same as the input is kept, unconverted.
+    pub fn kept<'b>(&'b self, input: Input, y: usize, columns: Range<usize>, room: &'b mut Vec<u8>) -> &'b [u8] {
+        let row = self.part(input, y, columns);
+        if !matches!(input, Input::Alpha) {
             return row;
         }
         room.resize(row.len(), 0);
-        if let Some(conversion) = conversion {
-            conversion.row(row, room);
-            return room;
-        }
         for (dst, src) in room.as_chunks_mut().0.iter_mut().zip(row.as_chunks().0) {
             *dst = (u32::from_le_bytes(*src) & 0xff00_0000).to_le_bytes();
         }

@@ -7,6 +7,7 @@ mod arith;
 mod blur;
 mod chunk;
 mod composite;
+pub mod curve;
 mod damage;
 mod draw;
 mod inputs;
@@ -25,6 +26,7 @@ mod tile;
 
 use crate::calls::{Answer, Call, Region, Renderer};
 use inputs::{is_converted, Inputs};
+pub use read::units;
 use rect::Rect;
 use space::Conversion;
 use step::Step;

@@ -1,4 +1,5 @@
 //! Steps from lines of text. The lines are trusted: the benchmark's sheets are constants, and a malformed one stops it.
+use super::curve;
 use super::rect::Rect;
 use super::space::{Conversion, Space};
 use super::step::{Input, Operator, Step, Work};
@@ -24,7 +25,7 @@ fn step(line: &str) -> Step {
     Step { work: in_space(work(kind, &numbers), space), region, inputs, space }
 }
 
-/// Takes the last field where it is a space. The words are no inputs and no numbers.
+/// Takes the last field where it is a space. The words are no inputs and no numbers, and a curve's own `linear` has numbers after it.
 fn space(fields: &mut Vec<&str>) -> Space {
     let named = match fields.last() {
         Some(&"srgb") => Space::Srgb,
@@ -43,7 +44,7 @@ fn in_space(work: Work, space: Space) -> Work {
             Conversion::new(space).row(&pixel, &mut converted);
             Work::Flood(converted)
         }
-        _ => work,
+        (work, _) => work,
     }
 }
 
@@ -67,6 +68,7 @@ fn work(kind: &str, numbers: &[&str]) -> Work {
         "matrix" => Work::Matrix(std::array::from_fn(unit)),
         "saturate" => Work::Matrix(saturate(unit(0))),
         "lumalpha" => Work::Luminance,
+        "curve" => Work::Curve(Box::new(curve::maps(numbers, units))),
         "over" => Work::Composite(Operator::Over),
         "in" => Work::Composite(Operator::In),
         "out" => Work::Composite(Operator::Out),
@@ -83,7 +85,8 @@ fn nearest(over: i64, under: i64) -> i64 {
     over.signum() * ((2 * over.abs() + under) / (2 * under))
 }
 
-fn units(field: &str) -> i64 {
+/// A number in units of 1/65,536.
+pub fn units(field: &str) -> i64 {
     if let Some(bits) = field.strip_prefix('x') {
         let single = f32::from_bits(u32::from_str_radix(bits, 16).expect("the bits of a single"));
         return (f64::from(single) * 65_536.0).round_ties_even() as i64;

@@ -1,4 +1,5 @@
 //! A step as it is drawn: its numbers are whole pixels, units of 1/65,536 or bytes.
+use super::curve::Maps;
 use super::rect::Rect;
 use super::space::Space;
 
@@ -18,7 +19,6 @@ pub enum Operator {
     Xor,
 }
 
-#[derive(Clone, Copy)]
 pub enum Work {
     Flood([u8; 4]),
     Offset([i32; 2]),
@@ -28,6 +28,7 @@ pub enum Work {
     Dilate([usize; 2]),
     Matrix([i64; 20]),
     Luminance,
+    Curve(Box<Maps>),
     Composite(Operator),
     Arithmetic([i64; 4]),
     Merge,

@@ -1,12 +1,13 @@
 //! The plain version against the second program, byte for byte.
+use super::curve::{self, Curve};
 use super::space::{Conversion, Space};
-use super::Plain;
+use super::{units, Plain};
 use crate::calls::{Answer, Call, Region, Renderer};
 use reference::cases::{damage_picture, picture, region, sheet, style};
 use reference::fault::Fault;
 use reference::random::Random;
 use reference::render::{redraw, render, Sheet};
-use reference::{check, print, step, text};
+use reference::{check, print, step, text, transfer};
 
 /// The second program in the place of the proved library, with a fault or without.
 pub struct Second(pub Fault);
@@ -121,5 +122,55 @@ fn every_conversion() {
                 assert_eq!(converted, reference::space::convert(theirs, pixel, Fault::None));
             }
         }
+    }
+}
+
+/// A random component transfer: its maps by the plain version, from its fields, and by the second program.
+fn maps(random: &mut Random) -> (curve::Maps, transfer::Maps) {
+    loop {
+        let step = reference::cases::step(random, 0, 1, 1, false);
+        let step::Kind::Curve(transfers) = step.kind else { continue };
+        let line = print::step(&step::Step { space: reference::space::Space::Linear, ..step.clone() }, 0, print::Style::default());
+        let fields: Vec<&str> = line.trim_end().split('\t').skip(6).collect();
+        let numbers: Vec<i64> = step.numbers.iter().map(|number| units(&print::number(*number, 0))).collect();
+        return (curve::maps(&fields, units), transfer::maps(transfers, &numbers, Fault::None));
+    }
+}
+
+/// Every colour at every alpha, by tables and by maps alone, with a conversion in the tables and without.
+#[test]
+fn every_curve() {
+    let mut random = Random::new(9);
+    let valid = (0..=255).flat_map(|a| (0..=a).map(move |c| [c, a - c, a, a]));
+    let pixels: Vec<[u8; 4]> = valid.collect();
+    let linear = |p: &[u8; 4]| reference::space::convert(reference::space::Space::Linear, *p, Fault::None);
+    for _ in 0..40 {
+        let (ours, theirs) = maps(&mut random);
+        assert_eq!(ours, theirs);
+        let conversion = Conversion::new(Space::Linear);
+        let drawn = |curve: Curve| {
+            let mut drawn = pixels.concat();
+            curve.row(&pixels.concat(), &mut drawn);
+            drawn
+        };
+        let second = |p: [u8; 4]| transfer::curve(&theirs, p, Fault::None);
+        let stored: Vec<u8> = pixels.iter().flat_map(|p| second(*p)).collect();
+        let converted: Vec<u8> = pixels.iter().flat_map(|p| second(linear(p))).collect();
+        assert!(drawn(Curve::new(ours, 1, None)) == stored);
+        assert!(drawn(Curve::new(ours, 1_000_000, None)) == stored);
+        assert!(drawn(Curve::new(ours, 1_000_000, Some(&conversion))) == converted);
+        assert!(Curve::new(ours, 1_000_000, None).converts() && !Curve::new(ours, 1, None).converts());
+    }
+}
+
+/// A canvas large enough for tables, in both spaces.
+#[test]
+fn large_curves() {
+    let mut random = Random::new(10);
+    for space in ["", "\tsrgb"] {
+        let maps = "table\t3\t0\t1\t0.5\tdiscrete\t3\t1\t0\t0.5\tlinear\t-1\t1\tlinear\t0.5\t0.25";
+        let first = format!("curve\t0\t0\t300\t290\tsrc\t{maps}{space}\n");
+        let steps = format!("{first}curve\t3\t0\t290\t290\t0\t{maps}\ncurve\t0\t1\t300\t280\talpha\t{maps}\n");
+        same(&case(&mut random, 300, 290, steps));
     }
 }

@@ -31,6 +31,7 @@
 //! | `matrix` | input, 20 numbers, four rows of five | −256 to 256 |
 //! | `saturate` | input, s | 0 to 1 |
 //! | `lumalpha` | input | |
+//! | `curve` | input, then for R, G, B and A one of `identity`; `table`, n, n entries; `discrete`, n, n entries; `linear`, slope, intercept | n of 1 to 16; entries 0 to 1; −256 to 256 |
 //! | `over`, `in`, `out`, `atop`, `xor` | top, bottom | |
 //! | `arith` | input, input, k1 to k4 | −256 to 256 |
 //! | `merge` | 1 to 4 inputs, bottom first | |
@@ -47,13 +48,25 @@
 //! # Ok::<(), twillgoose::Refusal>(())
 //! ```
 //!
-//! Whole fields (the region, a step's number, a flood's bytes) have 1 to 4 digits, no sign and no leading zeros. A number
+//! A curve maps each channel of the unpremultiplied pixel, alpha included, and premultiplies by the new alpha. Its space
+//! stands after the fourth transfer; its own `linear` is never taken for it.
+//!
+//! ```
+//! // Colours turned round, alpha halved: 255, 128 and 0 become 0, 127 and 255 at 128.
+//! let step = "curve\t0\t0\t1\t1\tsrc\ttable\t2\t1\t0\ttable\t2\t1\t0\ttable\t2\t1\t0\tlinear\t0.5\t0\tsrgb\n";
+//! let (mut workspace, mut scratch) = ([0; 4], [0; 8]);
+//! twillgoose::render(1, 1, step, &[255, 128, 0, 255], &mut workspace, &mut scratch)?;
+//! assert_eq!(workspace, [0, 64, 128, 128]);
+//! # Ok::<(), twillgoose::Refusal>(())
+//! ```
+//!
+//! Whole fields (the region, a step's number, a flood's bytes, n) have 1 to 4 digits, no sign and no leading zeros. A number
 //! is an optional minus, 1 to 5 digits without leading zeros, optionally a point and 1 to 4 digits; or `x` and the eight
 //! lower-case hexadecimal digits of a single. It is checked as it stands, then rounded to the nearest 1/65,536. A single
 //! halfway between two goes to the even one; no decimal lies there. A [`Refusal`] says what is wrong with a call, and
-//! changes no byte that was lent. A sixty-fifth step line, a merge of 0 or 5 inputs and another word for the space are
-//! not of the form: they are refused as lines. Refusal 21, which readers of lists of step records give, cannot be met
-//! here: steps are lines.
+//! changes no byte that was lent. A sixty-fifth step line, a merge of 0 or 5 inputs, an n of 0 or above 16 and another word
+//! for a transfer or for the space are not of the form: they are refused as lines. Refusals 16, of a step record with a table of 0
+//! or more than 16 entries, and 21, of readers of lists of step records, cannot be met here: steps are lines.
 
 #![warn(missing_docs)]
 
@@ -154,7 +167,7 @@ pub fn layer(width: usize, height: usize, steps: usize, n: usize, workspace: &[u
 
 /// The rules that this page describes. The number rises whenever an answer or a pixel changes: compare pictures only if
 /// both were drawn under the same number.
-pub const RULES: u64 = 5;
+pub const RULES: u64 = 6;
 
 /// The number of the rules that the library was built with, [`RULES`] where page and library belong together.
 pub fn rules() -> u64 {

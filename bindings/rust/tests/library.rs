@@ -141,6 +141,40 @@ fn linear_light() {
     }
 }
 
+/// Straight 128 64 0 at 80 are mapped to 127 64 255 at 160; transparent black to 255 0 0 at 64; 55, 13 and 4, which 128, 64
+/// and 32 are in linear light, to 28, from 27.5, to 7, from 6.5, and to themselves.
+#[test]
+fn curves() {
+    let one = "curve 0 0 1 1 src linear -1 1 identity discrete 1 1 linear 2 0\n";
+    assert_eq!(last_layer(1, 1, one, &[40, 20, 0, 80]), [80, 40, 160, 160]);
+    let clear = "curve 0 0 1 1 src table 2 1 0 identity identity discrete 2 0.25 0\n";
+    assert_eq!(last_layer(1, 1, clear, &[0; 4]), [64, 0, 0, 64]);
+    let row = alphas(&[0, 64, 127, 128, 255]);
+    let table = "curve 0 0 5 1 src identity identity identity table 3 0 1 0.5\n";
+    assert_eq!(last_layer(5, 1, table, &row), alphas(&[0, 128, 254, 255, 128]));
+    let half = "curve\t0\t0\t1\t1\tsrc\tlinear\t0.5\t0\tlinear\t0.5\t0\tidentity\tidentity";
+    for (space, layer) in [("", [28, 7, 4, 255]), ("\tlinear", [28, 7, 4, 255]), ("\tsrgb", [64, 32, 32, 255])] {
+        let (mut layers, mut scratch) = ([0; 4], [0; 8]);
+        let steps = format!("{half}{space}\n");
+        assert_eq!(render(1, 1, steps, &[128, 64, 32, 255], &mut layers, &mut scratch), Ok(()));
+        assert_eq!(layers, layer, "{space}");
+    }
+}
+
+#[test]
+fn refused_curves() {
+    let refused = |maps: &str| rendered(1, 1, &format!("curve 0 0 1 1 src {maps}\n"), &[0; 4]).expect_err("refused");
+    assert_eq!(refused("table 2 0 -0.0001 identity identity identity"), Refusal::Negative(0));
+    assert_eq!(refused("discrete 2 1 1.0001 identity identity identity"), Refusal::OutOfRange(0));
+    assert_eq!(refused("identity identity identity linear x7fc00000 0"), Refusal::NotFinite(0));
+    let many = |count: usize| format!("table {count}{} identity identity identity", " 1".repeat(count));
+    let three = "identity identity identity";
+    for wrong in [many(0), many(17), three.into(), format!("{three} linear"), format!("gamma {three}")] {
+        assert_eq!(refused(&wrong), Refusal::Line(1), "{wrong}");
+    }
+    assert!(rendered(1, 1, &format!("curve 0 0 1 1 src {}\n", many(16)), &[0; 4]).is_ok());
+}
+
 /// 64 steps on a row of four pixels: the alpha, then moved right and left in turn.
 fn long_steps(count: usize) -> String {
     let moved = |n: usize| format!("offset 0 0 4 1 {} {} 0\n", n - 1, [-1, 1][n % 2]);

@@ -14,7 +14,7 @@ use Rattle.filter.specs.Earlier.{Earlier}
 use Rattle.buffers.specs.declared.Context.{Context}
 use Rattle.buffers.specs.Shown.{shown}
 use Rattle.buffers.specs.Context.{Readable, Drawable, DrawnIn}
-use Rattle.buffers.proofs.DrawnAgrees.{drawn-agree, valid-agree}
+use Rattle.buffers.proofs.DrawnAgrees.{stands-agree, drawn-agree, valid-agree}
 use Rattle.buffers.proofs.WorkAgrees.{work-same}
 
 -- its inputs can still be read, and are valid as they were
@@ -32,7 +32,7 @@ module _ (c : Context) (r : Rect) (new : Picture) (src d d′ pairs : List ℕ) 
   }
 
   pub drawable-later : Drawable c src d pairs → Drawable c src d′ pairs
-  drawable-later S = record { readable = readable-later (S .readable); valid = valid-agree (c .n) _ _ (drawn-agree c r new src d d′ D) (S .valid) }
+  drawable-later S = record { readable = readable-later (S .readable); valid = valid-agree (c .n) _ _ (stands-agree c r new src d d′ D) (S .valid) }
 
 -- what it sees and what it works are the same
 module _ (c : Context) (r : Rect) (new : Picture) (src d d′ : List ℕ) (D : DrawnIn c r new d d′) where

@@ -30,9 +30,12 @@ others-agree w h n src d d′ same = record { same = go }
     go SourceAlpha l = refl
     go (Layer k) l = let m : k < n = ltb-true k n l in same k (omega arith)
 
-pub drawn-agree : (c : Context) (r : Rect) (new : Picture) (src d d′ : List ℕ) → DrawnIn c r new d d′ → AgreeBefore (c .n) (shown c src d′) (shown c src d)
-drawn-agree c r new src d d′ D =
-    shown-agree c src d d′ (others-agree (c .w) (c .h) (c .n) src d d′ (drawn-other (c .w) (c .h) (c .n) r new d d′ D))
+module _ (c : Context) (r : Rect) (new : Picture) (src d d′ : List ℕ) (D : DrawnIn c r new d d′) where
+  pub stands-agree : AgreeBefore (c .n) (stands (c .w) (c .h) src d′) (stands (c .w) (c .h) src d)
+  stands-agree = others-agree (c .w) (c .h) (c .n) src d d′ (drawn-other (c .w) (c .h) (c .n) r new d d′ D)
+
+  pub drawn-agree : AgreeBefore (c .n) (shown c src d′) (shown c src d)
+  drawn-agree = shown-agree c src d d′ stands-agree
 
 pub valid-agree : (n : ℕ) (E F : Env) → AgreeBefore n E F → ValidInputs n F → ValidInputs n E
 valid-agree n E F A S = record { valid = λ i l. rw (A .same i l) (S .valid i l) }

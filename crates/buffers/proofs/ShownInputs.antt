@@ -7,7 +7,9 @@ use native.Mathlib.Omega.{arith}
 use Rattle.pixel.specs.Bytes.{pixelAt}
 use Rattle.pixel.specs.Remap.{remapped}
 use Rattle.pixel.specs.Space.{spaceMaps}
-use Rattle.pixel.specs.Convert.{converted}
+use Rattle.pixel.specs.declared.Space as S
+use Rattle.pixel.specs.declared.Space.the-variants.{Srgb, Linear}
+use Rattle.pixel.specs.Convert.{differ?, converted}
 use Rattle.pixel.proofs.Converted.{converted-clear, converted-same}
 use Rattle.filter.specs.declared.Input.{Input}
 use Rattle.filter.specs.declared.Input.the-variants.{Source, SourceAlpha, Layer}
@@ -20,11 +22,16 @@ use Rattle.filter.proofs.SeenInSpaces.{seen-picture, seen-alpha}
 use Rattle.buffers.specs.declared.Context.{Context}
 use Rattle.buffers.specs.declared.RowPart.{RowPart}
 use Rattle.buffers.specs.Buffers.{stands, ValidInputs}
-use Rattle.buffers.specs.Shown.{spacesBy, spacesIn, shown}
-use Rattle.buffers.specs.Context.{LoadedPart}
+use Rattle.buffers.specs.Shown.{spacesBy, spacesIn, asKept, shown}
+use Rattle.buffers.specs.Context.{Drawable, LoadedPart}
 use Rattle.buffers.specs.Seen.{converts?}
 use Rattle.buffers.specs.Code.{RowConverted}
 use Rattle.buffers.proofs.StandingPictures.{stands-blank}
+
+differ-not : (s : S.Space) → differ? s s ≡ false
+unfolding differ?
+differ-not Srgb = refl
+differ-not Linear = refl
 
 module _ (c : Context) (src : List ℕ) where
   -- transparent black stays
@@ -42,6 +49,18 @@ module _ (c : Context) (src : List ℕ) where
   unfolding shown
   shown-valid ws S = record { valid = λ i l. seen-picture (spacesIn c) (c .space) (stands (c .w) (c .h) src ws) i (S .valid i l) }
 
+  pub drawable-valid : (ws pairs : List ℕ) → Drawable c src ws pairs → ValidInputs (c .n) (shown c src ws)
+  drawable-valid ws pairs D = shown-valid ws (D .valid)
+
+  -- pixel by pixel, and as it is kept
+  pub shown-is : (ws : List ℕ) (i : Input) (x y : ℕ) → shown c src ws i x y ≡ converted (spacesIn c i) (c .space) (stands (c .w) (c .h) src ws i x y)
+  unfolding shown
+  shown-is ws i x y = refl
+
+  pub kept-shown : (ws : List ℕ) (i : Input) → shown (asKept c i) src ws i ≡ stands (c .w) (c .h) src ws i
+  unfolding shown
+  kept-shown ws i = fun-ext λ x. fun-ext λ y. converted-same (spacesIn c i) (spacesIn c i) (stands (c .w) (c .h) src ws i x y) (differ-not (spacesIn c i))
+
   -- an input that is not converted is seen as it stands
   pub shown-own : (ws : List ℕ) (i : Input) → converts? c i ≡ false → shown c src ws i ≡ stands (c .w) (c .h) src ws i
   unfolding shown converts? stands spacesBy
@@ -50,7 +69,7 @@ module _ (c : Context) (src : List ℕ) where
   shown-own ws (Layer k) e = fun-ext λ x. fun-ext λ y. converted-same (spacesIn c (Layer k)) (c .space) (stands (c .w) (c .h) src ws (Layer k) x y) e
 
   -- one that is, pixel by pixel
-  shown-other : (ws : List ℕ) (i : Input) → converts? c i ≡ true → (x y : ℕ) → remapped (spaceMaps (c .space)) (stands (c .w) (c .h) src ws i x y) ≡ shown c src ws i x y
+  pub shown-other : (ws : List ℕ) (i : Input) → converts? c i ≡ true → (x y : ℕ) → remapped (spaceMaps (c .space)) (stands (c .w) (c .h) src ws i x y) ≡ shown c src ws i x y
   unfolding shown converts? converted spacesBy
   shown-other ws Source e x y = rw e
   shown-other ws SourceAlpha e x y = absurd (false≢true e)

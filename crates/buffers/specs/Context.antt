@@ -12,7 +12,7 @@ use Rattle.filter.specs.Bytes.{size}
 use Rattle.filter.specs.Limits.{longestSide, mostSteps}
 use Rattle.buffers.specs.declared.Context as C
 use Rattle.buffers.specs.declared.RowPart.{RowPart}
-use Rattle.buffers.specs.Buffers.{Loaded, Sized, ValidInputs, rowAt}
+use Rattle.buffers.specs.Buffers.{stands, Loaded, Sized, ValidInputs, rowAt}
 use Rattle.buffers.specs.Shown.{shown, Tabled}
 use Rattle.buffers.specs.Drawn.{Drawn}
 
@@ -40,10 +40,10 @@ pub record Readable (c : C.Context) (src ws pairs : List ℕ) : Type 0 where
   pub sized : Sized (c .w) (c .h) (c .n) src ws
   pub tabled : Tabled c pairs
 
--- and they are valid pictures
+-- and the pictures that stand there are valid
 pub record Drawable (c : C.Context) (src ws pairs : List ℕ) : Type 0 where
   pub readable : Readable c src ws pairs
-  pub valid : ValidInputs (c .n) (shown c src ws)
+  pub valid : ValidInputs (c .n) (stands (c .w) (c .h) src ws)
 
 -- the work row now starts with the part of the picture
 abbrev pub LoadedPart : Picture → RowPart → List ℕ → List ℕ → Type 0

@@ -22,6 +22,10 @@ spacesBy linear (Layer k) = cond (getD linear k false) Linear Srgb
 abbrev pub spacesIn : Context → Input → S.Space
 spacesIn c = spacesBy (c .linear)
 
+-- the context of a step that sees an input as it is kept
+abbrev pub asKept : Context → Input → Context
+asKept c i = record { w = c .w; h = c .h; n = c .n; space = spacesIn c i; linear = c .linear; tabled = c .tabled }
+
 -- what a step sees at each input
 unfoldable pub shown : Context → List ℕ → List ℕ → Env
 shown c source workspace = seen (spacesIn c) (c .space) (stands (c .w) (c .h) source workspace)

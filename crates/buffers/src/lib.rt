@@ -1,5 +1,5 @@
 // Rows of the pictures in the caller's buffers, brought to work rows and back.
-mod spaces;
+pub mod spaces;
 
 ghost use mathlib.Core.Path.{_≡_};
 ghost use mathlib.Core.Bool.{true};
@@ -97,7 +97,7 @@ fn copy_row(
 }
 
 // The same part as a step sees it; `pairs` is the table of its space, or empty.
-fn bring(
+pub fn bring(
     workspace: &[u8],
     source: &[u8],
     context: Context,

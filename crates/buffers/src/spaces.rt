@@ -6,7 +6,7 @@ ghost use lib.ListN.{length};
 ghost use Rattle.filter.specs.Checks.{allowed?};
 ghost use Rattle.filter.specs.declared.Input.the-variants.{Layer};
 ghost use Rattle.filter.specs.Limits.{longestSide, mostSteps};
-ghost use Rattle.buffers.specs.Shown.{spacesIn, Tabled};
+ghost use Rattle.buffers.specs.Shown.{spacesIn, asKept, Tabled};
 ghost use Rattle.buffers.specs.Seen.{converts?, lies?, stays?};
 ghost use Rattle.buffers.specs.Code.{RowConverted};
 use super::Context;
@@ -25,6 +25,35 @@ fn layer_space(context: Context, k: usize) -> Space
         return Space::Linear;
     }
     Space::Srgb
+}
+
+// The space that an input is kept in.
+fn kept_space(context: Context, input: Input) -> Space
+    requires { ⌜ allowed? mostSteps input ≡ true ⌝ }
+    ensures { λ r. ⌜ r ≡ spacesIn context input ⌝ }
+{
+    match input {
+        Input::Source => Space::Srgb,
+        Input::SourceAlpha => Space::Srgb,
+        Input::Layer(k) => layer_space(context, k),
+    }
+}
+
+// The same step where it sees an input as it is kept: for a kernel that converts by itself.
+pub fn as_kept(context: Context, input: Input) -> Context
+    requires { ⌜ allowed? mostSteps input ≡ true ⌝ }
+    ensures { λ r. ⌜ r ≡ asKept context input ⌝ }
+{
+    let space = kept_space(context, input);
+    let linear = context.linear;
+    Context {
+        w: context.w,
+        h: context.h,
+        n: context.n,
+        space,
+        linear,
+        tabled: context.tabled,
+    }
 }
 
 // Whether the rows of an input are converted. The source's alpha is the same in both spaces.

@@ -23,7 +23,7 @@ use Rattle.filter.specs.Bytes.{size}
 use Rattle.filter.specs.Signature.{signatureOf, numbersOf, rangeAt}
 use Rattle.filter.specs.Kinds.{noValue, valueAt}
 use Rattle.filter.specs.Steps.{unitsAt, shiftOf, pixelsOf, listed, valueOf, valuesOf, shapeOf, shaped, resolved, stepAt}
-use Rattle.filter.specs.Checks.{merges?, inputs?, onCanvas?, stepAnswer, stepsAnswer, canvas?, count?, sizesAnswer, rectangleAnswer}
+use Rattle.filter.specs.Checks.{merges?, inputs?, tables?, onCanvas?, stepAnswer, stepsAnswer, canvas?, count?, sizesAnswer, rectangleAnswer}
 use Rattle.filter.specs.Accepted.{OnCanvas, Canvas, Near, Ranged, mostOf, Measured, Numbered, Bounded, AcceptedStep, AcceptedSizes}
 use Rattle.filter.specs.Limits.{longestSide, mostSteps, mostNumbers}
 use Rattle.filter.proofs.UnitsInRange.{units-in-range}
@@ -81,17 +81,17 @@ module _ (s : Step) where
   ranged : (k : Kind) → s .kind ≡ k → Ranged (signatureOf k .numbers) (valuesOf s)
   ranged k e = record { above = λ i l. rw (value-at i l) (value-above k i e); below = λ i l. rw (value-at i l) (value-below k i e) }
 
-  bounded : merges? (signatureOf (s .kind)) ≡ true → Bounded (resolved s)
+  bounded : merges? (signatureOf (s .kind)) ≡ true → tables? s ≡ true → Bounded (resolved s)
   unfolding shaped Measured Numbered
-  bounded g = record { shape = shape (s .kind) refl g; values = values (s .kind) refl }
+  bounded g t = record { shape = shape (s .kind) refl g t; values = values (s .kind) refl }
     where
-      shape : (k : Kind) → s .kind ≡ k → merges? (signatureOf k) ≡ true → Measured (shapeOf k s)
-      shape (K.Flood r g b) e m = tt
-      shape K.Offset e m = (near 0 e, near 1 e)
-      shape (K.Pass p) e m = (small p 0 e, small p 1 e)
-      shape (K.Map k) e m = tt
-      shape (K.Pair p) e m = tt
-      shape (K.Merge n) e m = let t = both-true (leb 1 n) (leb n 4) m in (leb-true 1 n (t .0), leb-true n 4 (t .1))
+      shape : (k : Kind) → s .kind ≡ k → merges? (signatureOf k) ≡ true → signatureOf k .tables ≡ true → Measured (shapeOf k s)
+      shape (K.Flood r g b) e m t = tt
+      shape K.Offset e m t = (near 0 e, near 1 e)
+      shape (K.Pass p) e m t = (small p 0 e, small p 1 e)
+      shape (K.Map k) e m t = t
+      shape (K.Pair p) e m t = tt
+      shape (K.Merge n) e m t = let t = both-true (leb 1 n) (leb n 4) m in (leb-true 1 n (t .0), leb-true n 4 (t .1))
 
       values : (k : Kind) → s .kind ≡ k → Numbered (shapeOf k s) (valuesOf s)
       values (K.Flood r g b) e = tt
@@ -113,7 +113,7 @@ accepted-step w h n s e =
     let p = step-accepted w h n s e in
     record {
       inputs = inputs-earlier n s (p .inputs);
-      numbers = bounded s (both-true (merges? (signatureOf (s .kind))) _ (p .inputs) .0);
+      numbers = bounded s (both-true (merges? (signatureOf (s .kind))) _ (p .inputs) .0) (p .tables);
       region = record { right = p .across; bottom = p .down };
     }
 

@@ -9,25 +9,30 @@ use borrow.Author.Tests.{leb-true, leb-false, le-leb, lt-leb}
 use Rattle.filter.specs.declared.Signature.{Signature}
 use Rattle.filter.specs.declared.Step.{Step}
 use Rattle.filter.specs.declared.Answer as A
-use Rattle.filter.specs.declared.Answer.the-variants.{Done, Input, OutsideCanvas}
+use Rattle.filter.specs.declared.Answer.the-variants.{Done, Input, TableSize, OutsideCanvas}
 use Rattle.filter.specs.Answers.{numberOf, accepted?}
 use Rattle.filter.specs.Signature.{signatureOf, inputsOf}
 use Rattle.filter.specs.Steps.{inputAt}
 use Rattle.filter.proofs.Earlier.{both-true}
-use Rattle.filter.specs.Checks.{unless, orElse, firstOf, all, allowed?, merges?, inputs?, numbersAnswer, onCanvas?, stepAnswer}
+use Rattle.filter.specs.Checks.{unless, orElse, firstOf, all, allowed?, merges?, inputs?, tables?, numbersAnswer, onCanvas?, stepAnswer}
 
 pub accepted-zero : (a : A.Answer) → eqb (numberOf a) 0 ≡ accepted? a
 unfolding accepted?
 accepted-zero a = refl
 
--- check 7 of a step comes first; the first refusal of the others
+-- check 7 of a step comes first, then 16; the first refusal of the others
 pub step-refused : (w h n : ℕ) (s : Step) → inputs? n s ≡ false → Input n ≡ stepAnswer w h n s
 unfolding stepAnswer
 step-refused w h n s e = rw e
 
-pub step-is : (w h n : ℕ) (s : Step) (o : A.Answer) → inputs? n s ≡ true → o ≡ orElse (numbersAnswer n s) (unless (onCanvas? w h (s .region)) (OutsideCanvas n) Done) → o ≡ stepAnswer w h n s
+pub step-oversized : (w h n : ℕ) (s : Step) → inputs? n s ≡ true → tables? s ≡ false → TableSize n ≡ stepAnswer w h n s
 unfolding stepAnswer
-step-is w h n s o e p = rw e p
+step-oversized w h n s e t = rw (e, t)
+
+pub step-is : (w h n : ℕ) (s : Step) (o : A.Answer) → inputs? n s ≡ true → tables? s ≡ true
+    → o ≡ orElse (numbersAnswer n s) (unless (onCanvas? w h (s .region)) (OutsideCanvas n) Done) → o ≡ stepAnswer w h n s
+unfolding stepAnswer
+step-is w h n s o e t p = rw (e, t) p
 
 -- one more of a fold
 pub all-more : (f : ℕ → Bool) (i : ℕ) (g b o : Bool) → g ≡ all f i → b ≡ f i → o ≡ (g && b) → o ≡ all f (i + 1)

@@ -1,4 +1,4 @@
-// Checks 7 to 11 and 13: the steps, in the order of checking.
+// Checks 7, 16, 8 to 11 and 13: the steps, in the order of checking.
 use super::answers::first;
 use super::sizes::on_canvas;
 use filter::Answer;
@@ -16,7 +16,7 @@ use number::Judged;
 use number::judge;
 use window::both;
 ghost use mathlib.Core.Path.{_≡_};
-ghost use Rattle.filter.specs.Checks.{unless, orElse, allowed?, merges?, inputs?, numberAnswer, numbersAnswer, onCanvas?, stepAnswer};
+ghost use Rattle.filter.specs.Checks.{unless, orElse, allowed?, merges?, inputs?, tables?, numberAnswer, numbersAnswer, onCanvas?, stepAnswer};
 ghost use Rattle.filter.specs.Valid.{FloodBytes};
 
 // 7: the source, or an earlier layer.
@@ -51,6 +51,15 @@ fn inputs_allowed(n: usize, step: Step) -> bool
         good = both(good, is_allowed(n, input_at(step, i)));
     }
     good
+}
+
+// 16: what a table claims is looked at before any of its numbers.
+fn tables_allowed(step: Step) -> bool
+    ensures { λ o. ⌜ o ≡ tables? step ⌝ }
+{
+    let kind = step.kind;
+    let signature = signature_of(kind);
+    signature.tables
 }
 
 // 8 to 11, of a judged number.
@@ -99,12 +108,15 @@ fn check_region(width: usize, height: usize, n: usize, region: Region) -> Answer
     Answer::OutsideCanvas(n)
 }
 
-// 7, then each number through 8 to 11, then 13. The numbers of a step that 7 refuses are not looked at.
+// 7, then 16, then each number through 8 to 11, then 13. The numbers of a step that 7 or 16 refuses are not looked at.
 pub fn check_step(width: usize, height: usize, n: usize, step: Step) -> Answer
     ensures { λ o. ⌜ o ≡ stepAnswer width height n step ⌝ }
 {
     if !inputs_allowed(n, step) {
         return Answer::Input(n);
+    }
+    if !tables_allowed(step) {
+        return Answer::TableSize(n);
     }
     let numbers = check_numbers(n, step);
     let region = check_region(width, height, n, step.region);

@@ -7,8 +7,7 @@ ghost use Rattle.filter.specs.Kinds.{reads};
 ghost use Rattle.filter.specs.Earlier.{Earlier};
 ghost use Rattle.filter.specs.Accepted.{Within, Bounded};
 ghost use Rattle.filter.specs.Bytes.{size};
-ghost use Rattle.buffers.specs.Buffers.{Sized, ValidInputs};
-ghost use Rattle.buffers.specs.Shown.{shown};
+ghost use Rattle.buffers.specs.Buffers.{stands, Sized, ValidInputs};
 ghost use Rattle.buffers.specs.Context.{InLimits, LayerIn, Drawable, StepDrawn};
 ghost use Rattle.draw.specs.ClearedAround.{ClearedAround};
 ghost use Rattle.draw.specs.CoversCanvas.{covers?};
@@ -59,7 +58,8 @@ fn draw_tabled(
     rect: Rect,
 )
     requires { ⌜ Sized (context .w) (context .h) (context .n) (now source) (now workspace) × (length (now scratch) ≡ 2 * size (context .w) (context .h)) ⌝ }
-    requires { ⌜ ValidInputs (context .n) (shown context (now source) (now workspace)) × Earlier (context .n) (reads (step .shape)) × Bounded step ⌝ }
+    requires { ⌜ ValidInputs (context .n) (stands (context .w) (context .h) (now source) (now workspace)) × Earlier (context .n) (reads (step .shape))
+        × Bounded step ⌝ }
     requires { ⌜ Within (context .w) (context .h) rect ⌝ }
     ensures { λ _. ⌜ StepDrawn context step rect (now (source .entry)) (now (workspace .entry)) (now (workspace .exit)) ⌝ }
     ensures { λ _. ⌜ WorkBuffer (now (scratch .entry)) (now (scratch .exit)) ⌝ }
@@ -80,7 +80,8 @@ pub fn draw(
     rect: Rect,
 )
     requires { ⌜ Sized (context .w) (context .h) (context .n) (now source) (now workspace) × (length (now scratch) ≡ 2 * size (context .w) (context .h)) ⌝ }
-    requires { ⌜ ValidInputs (context .n) (shown context (now source) (now workspace)) × Earlier (context .n) (reads (step .shape)) × Bounded step ⌝ }
+    requires { ⌜ ValidInputs (context .n) (stands (context .w) (context .h) (now source) (now workspace)) × Earlier (context .n) (reads (step .shape))
+        × Bounded step ⌝ }
     requires { ⌜ Within (context .w) (context .h) rect ⌝ }
     ensures { λ _. ⌜ StepDrawn context step rect (now (source .entry)) (now (workspace .entry)) (now (workspace .exit)) ⌝ }
     ensures { λ _. ⌜ WorkBuffer (now (scratch .entry)) (now (scratch .exit)) ⌝ }

@@ -21,6 +21,11 @@ unfoldable pub byMethod : Method → Pixel → Pixel
 byMethod (ByMatrix m) = byMatrix m
 byMethod ByLuminance = byMatrix luminance
 
+-- what a method asks of the values that it takes
+unfoldable pub AllowedMethod : Method → Type 0
+AllowedMethod (ByMatrix m) = AllowedMatrix m
+AllowedMethod ByLuminance = Unit {0}
+
 -- the tables that a method reads are worked out
 unfoldable pub Prepared : Method → List ℕ → List ℕ → List ℕ → Type 0
 Prepared (ByMatrix m) products luminances inverse = MatrixTable m products × AllowedMatrix m × UnpremultiplyTable inverse

@@ -1,6 +1,6 @@
 // A step that works each pixel from the pixel of one input at its place, drawn inside one rectangle of its layer. Loading and the loop over
-// rows are the shape's; `kinds` has what differs from kind to kind.
-mod kinds;
+// rows are the shape's; a kind is a method with what it takes of the step's values, and a curve has its own crate.
+mod methods;
 mod values;
 
 ghost use mathlib.Core.Path.{_≡_};
@@ -8,22 +8,25 @@ ghost use mathlib.Core.Bool.{true};
 ghost use Prim.Native.Nat.{_-_, _*_, _≤_};
 ghost use lib.ListN.{length};
 ghost use Rattle.filter.specs.Kinds.{mapped};
-ghost use Rattle.filter.specs.Signature.{mapNumbers};
+ghost use Rattle.filter.specs.Signature.{mapNumbers, mapTables?};
 ghost use Rattle.filter.specs.Checks.{allowed?};
 ghost use Rattle.filter.specs.Accepted.{Within, Ranged};
 ghost use Rattle.buffers.specs.Context.{Drawable, OnRow};
 ghost use Rattle.draw_map.specs.Map.{MapDrawn};
-ghost use Rattle.draw_map.specs.Code.{Prepared, MappingPainted, MappingDrawn};
+ghost use Rattle.draw_map.specs.Code.{byMethod, AllowedMethod, Prepared, MappingPainted, MappingDrawn};
 use buffers::Context;
 use buffers::RowPart;
+use draw_curve::draw_curve;
 use filter::Input;
 use filter::Map;
 use filter::Rect;
 use filter::Sheet;
-use kinds::map_row;
-use kinds::prepare;
+use methods::map_row;
+use methods::prepare;
 use number::Fixed;
 use pixel::Matrix;
+use values::matrix_of;
+use values::saturate_of;
 
 // How a kind works a pixel, with what it takes of the step's values.
 pub enum Method {
@@ -115,20 +118,19 @@ fn paint_rows(
     }
 }
 
-// The step inside one rectangle; nothing else of the workspace changes. `pairs` is the table of its space, or empty.
-pub fn draw_map(
+// A method inside one rectangle, with its tables.
+fn draw_method(
     workspace: &mut [u8],
     source: &[u8],
     context: Context,
     pairs: &[u8],
-    map: Map,
-    values: [Fixed; Sheet::NUMBERS],
+    method: Method,
     input: Input,
     rect: Rect,
 )
-    requires { ⌜ Drawable context (now source) (now workspace) (now pairs) × (allowed? (context .n) input ≡ true) × Ranged (mapNumbers map) values ⌝ }
+    requires { ⌜ Drawable context (now source) (now workspace) (now pairs) × (allowed? (context .n) input ≡ true) × AllowedMethod method ⌝ }
     requires { ⌜ Within (context .w) (context .h) rect ⌝ }
-    ensures { λ _. ⌜ MapDrawn context (mapped map values) input rect (now (source .entry)) (now (workspace .entry)) (now (workspace .exit)) ⌝ }
+    ensures { λ _. ⌜ MapDrawn context (byMethod method) input rect (now (source .entry)) (now (workspace .entry)) (now (workspace .exit)) ⌝ }
 {
     if rect.right <= rect.left {
         return;
@@ -137,7 +139,7 @@ pub fn draw_map(
     let mut products = [0u64; 4096];
     let mut luminances = [0u32; 768];
     let mut inverse = [0u32; 512];
-    let method = prepare(map, values, &mut products, &mut luminances, &mut inverse);
+    prepare(method, &mut products, &mut luminances, &mut inverse);
     let mapping = Mapping { method, input };
     let k = 4 * (rect.right - rect.left);
     paint_rows(
@@ -152,4 +154,50 @@ pub fn draw_map(
         &inverse,
         &mut a[..k],
     );
+}
+
+// The step inside one rectangle; nothing else of the workspace changes. `pairs` is the table of its space, or empty.
+pub fn draw_map(
+    workspace: &mut [u8],
+    source: &[u8],
+    context: Context,
+    pairs: &[u8],
+    map: Map,
+    values: [Fixed; Sheet::NUMBERS],
+    input: Input,
+    rect: Rect,
+)
+    requires { ⌜ Drawable context (now source) (now workspace) (now pairs) × (allowed? (context .n) input ≡ true) ⌝ }
+    requires { ⌜ (mapTables? map ≡ true) × Ranged (mapNumbers map) values × Within (context .w) (context .h) rect ⌝ }
+    ensures { λ _. ⌜ MapDrawn context (mapped map values) input rect (now (source .entry)) (now (workspace .entry)) (now (workspace .exit)) ⌝ }
+{
+    match map {
+        Map::Matrix => {
+            let method = Method::ByMatrix(matrix_of(values));
+            draw_method(workspace, source, context, pairs, method, input, rect)
+        }
+        Map::Saturate => {
+            let method = Method::ByMatrix(saturate_of(values));
+            draw_method(workspace, source, context, pairs, method, input, rect)
+        }
+        Map::Luminance => draw_method(
+            workspace,
+            source,
+            context,
+            pairs,
+            Method::ByLuminance,
+            input,
+            rect,
+        ),
+        Map::Curve(transfers) => draw_curve(
+            workspace,
+            source,
+            context,
+            pairs,
+            transfers,
+            values,
+            input,
+            rect,
+        ),
+    }
 }

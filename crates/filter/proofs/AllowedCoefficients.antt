@@ -15,6 +15,7 @@ use Rattle.filter.specs.declared.Pair.the-variants.{Arithmetic}
 use Rattle.filter.specs.Signature.{alike, rangeIn, mapNumbers, pairNumbers}
 use Rattle.filter.specs.Kinds.{valueAt, matrixOf, arithmeticOf}
 use Rattle.filter.specs.Accepted.{Ranged}
+use Rattle.filter.specs.Limits.{mostNumbers}
 
 -- numbers of one range have that range
 pub alike-range : (n : ℕ) (r : Range) (i : ℕ) → rangeIn (alike n r) i ≡ r
@@ -25,7 +26,7 @@ alike-range n r i = go (ltb i n)
     go false = refl
 
 module _ (n : ℕ) (v : List Fixed) (h : Ranged (alike n Coefficient) v) where
-  at : (i : ℕ) → i < 20 → Allowed (valueAt v i)
+  at : (i : ℕ) → i < mostNumbers → Allowed (valueAt v i)
   at i l =
       let e : limitOf (rangeIn (alike n Coefficient) i) ≡ 256 = ap limitOf (alike-range n Coefficient i) in
       record { above = omega (arith, h .above i l); below = omega (arith, h .below i l) }

@@ -6,9 +6,12 @@ pub use Rattle.window.specs.Limits.{longestSide, longestRow, mostPixels}
 abbrev pub mostSteps : ℕ
 mostSteps = 64
 
--- the numbers that a step has room for (RULES 5.1)
+-- the entries of a table, at most (RULES 5.13), and the numbers that a step has room for, four such tables
+abbrev pub mostEntries : ℕ
+mostEntries = 16
+
 abbrev pub mostNumbers : ℕ
-mostNumbers = 20
+mostNumbers = 64
 
 -- a side of a text's canvas, at most, and the bytes of such a picture (RULES 9.2)
 abbrev pub longestTextSide : ℕ

@@ -1,9 +1,10 @@
 -- The table of steps (RULES 5.1): one row a kind. Assumes nothing.
-use Prim.Native.Nat.{ℕ}
-use mathlib.Core.Bool.{cond}
+use Prim.Native.Nat.{ℕ, _+_}
+use mathlib.Core.Bool.{Bool, true, cond}
 use lib.Dec.{ltb}
 use Rattle.number.specs.declared.Range.{Range}
 use Rattle.number.specs.declared.Range.the-variants as R
+use Rattle.pixel.specs.declared.Transfers.{Transfers}
 use Rattle.filter.specs.declared.Map.{Map}
 use Rattle.filter.specs.declared.Map.the-variants as Map
 use Rattle.filter.specs.declared.Pair.{Pair}
@@ -15,6 +16,7 @@ use Rattle.filter.specs.declared.Kind.the-variants as K
 use Rattle.filter.specs.declared.Group.{Group}
 use Rattle.filter.specs.declared.Numbers.{Numbers}
 use Rattle.filter.specs.declared.Signature.{Signature}
+use Rattle.filter.specs.Curves.{transfers?, transferCount, transferRange}
 
 -- the numbers before `end` that are in no group before
 abbrev pub upTo : ℕ → Range → Group
@@ -35,10 +37,27 @@ rangeIn ns i =
     (cond (ltb i (ns .third .end)) (ns .third .range)
     (ns .fourth .range)))
 
+-- a curve's channels, a group each
+abbrev pub curveNumbers : Transfers → Numbers
+curveNumbers t = record {
+  first = upTo (transferCount (t .r)) (transferRange (t .r));
+  second = upTo (transferCount (t .r) + transferCount (t .g)) (transferRange (t .g));
+  third = upTo (transferCount (t .r) + transferCount (t .g) + transferCount (t .b)) (transferRange (t .b));
+  fourth = upTo (transferCount (t .r) + transferCount (t .g) + transferCount (t .b) + transferCount (t .a)) (transferRange (t .a));
+}
+
 abbrev pub mapNumbers : Map → Numbers
 mapNumbers Map.Matrix = alike 20 R.Coefficient
 mapNumbers Map.Saturate = alike 1 R.Fraction
 mapNumbers Map.Luminance = alike 0 R.Coefficient
+mapNumbers (Map.Curve t) = curveNumbers t
+
+-- 16: "a table of 0 or more than 16 entries"
+abbrev pub mapTables? : Map → Bool
+mapTables? Map.Matrix = true
+mapTables? Map.Saturate = true
+mapTables? Map.Luminance = true
+mapTables? (Map.Curve t) = transfers? t
 
 abbrev pub pairNumbers : Pair → Numbers
 pairNumbers (Pair.Operator o) = alike 0 R.Coefficient
@@ -49,17 +68,17 @@ passNumbers Pass.Blur = alike 2 R.Deviation
 passNumbers Pass.Erode = alike 2 R.Radius
 passNumbers Pass.Dilate = alike 2 R.Radius
 
--- bytes, inputs at least and in all, and the numbers
-abbrev pub signature : ℕ → ℕ → ℕ → Numbers → Signature
-signature b l i ns = record { bytes = b; least = l; inputs = i; numbers = ns }
+-- bytes, inputs at least and in all, whether tables have 1 to 16 entries, and the numbers
+abbrev pub signature : ℕ → ℕ → ℕ → Bool → Numbers → Signature
+signature b l i t ns = record { bytes = b; least = l; inputs = i; tables = t; numbers = ns }
 
 abbrev pub signatureOf : Kind → Signature
-signatureOf (K.Flood r g b) = signature 3 0 0 (alike 1 R.Fraction)
-signatureOf K.Offset = signature 0 1 1 (alike 2 R.Offset)
-signatureOf (K.Pass p) = signature 0 1 1 (passNumbers p)
-signatureOf (K.Map m) = signature 0 1 1 (mapNumbers m)
-signatureOf (K.Pair p) = signature 0 1 2 (pairNumbers p)
-signatureOf (K.Merge n) = signature 0 1 n (alike 0 R.Coefficient)
+signatureOf (K.Flood r g b) = signature 3 0 0 true (alike 1 R.Fraction)
+signatureOf K.Offset = signature 0 1 1 true (alike 2 R.Offset)
+signatureOf (K.Pass p) = signature 0 1 1 true (passNumbers p)
+signatureOf (K.Map m) = signature 0 1 1 (mapTables? m) (mapNumbers m)
+signatureOf (K.Pair p) = signature 0 1 2 true (pairNumbers p)
+signatureOf (K.Merge n) = signature 0 1 n true (alike 0 R.Coefficient)
 
 abbrev pub byteFieldsOf : Kind → ℕ
 byteFieldsOf k = signatureOf k .bytes

@@ -34,7 +34,7 @@ stepIn s k i j a = record {
   kind = k;
   region = record { x = 0; y = 0; width = 1; height = 1 };
   inputs = record { input = i } ∷ record { input = j } ∷ replicate 2 noInput;
-  numbers = record { number = Decimal (pos a) } ∷ replicate 19 noNumber;
+  numbers = record { number = Decimal (pos a) } ∷ replicate 63 noNumber;
   space = s;
 }
 

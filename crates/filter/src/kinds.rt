@@ -6,14 +6,18 @@ use super::Numbers;
 use super::Pair;
 use super::Pass;
 use super::Signature;
+use super::curves::are_allowed;
+use super::curves::transfer_count;
+use super::curves::transfer_range;
 use number::Range;
+use pixel::Transfers;
 use window::spread_of;
 ghost use mathlib.Core.Path.{_≡_};
 ghost use Prim.Native.Nat.{_≤_};
 ghost use Rattle.filter.specs.Accepted.{mostOf};
 ghost use Rattle.filter.specs.Kinds.{backOf, aheadOf};
 ghost use Rattle.filter.specs.Limits.{longestSide};
-ghost use Rattle.filter.specs.Signature.{alike, numberCount, rangeIn, mapNumbers, pairNumbers, passNumbers, signatureOf};
+ghost use Rattle.filter.specs.Signature.{upTo, alike, numberCount, rangeIn, curveNumbers, mapNumbers, mapTables?, pairNumbers, passNumbers, signatureOf};
 
 // So many numbers of one range.
 fn numbers_alike(count: usize, range: Range) -> Numbers
@@ -28,6 +32,32 @@ fn numbers_alike(count: usize, range: Range) -> Numbers
     }
 }
 
+fn group(end: usize, range: Range) -> Group
+    ensures { λ o. ⌜ o ≡ upTo end range ⌝ }
+{
+    Group { end, range }
+}
+
+// The channels of a curve, a group each.
+pub fn curve_numbers(transfers: Transfers) -> Numbers
+    ensures { λ o. ⌜ o ≡ curveNumbers transfers ⌝ }
+{
+    let r = transfers.r;
+    let g = transfers.g;
+    let b = transfers.b;
+    let a = transfers.a;
+    let first = transfer_count(r);
+    let second = first + transfer_count(g);
+    let third = second + transfer_count(b);
+    let fourth = third + transfer_count(a);
+    Numbers {
+        first: group(first, transfer_range(r)),
+        second: group(second, transfer_range(g)),
+        third: group(third, transfer_range(b)),
+        fourth: group(fourth, transfer_range(a)),
+    }
+}
+
 pub fn map_numbers(map: Map) -> Numbers
     ensures { λ o. ⌜ o ≡ mapNumbers map ⌝ }
 {
@@ -35,6 +65,19 @@ pub fn map_numbers(map: Map) -> Numbers
         Map::Matrix => numbers_alike(20, Range::Coefficient),
         Map::Saturate => numbers_alike(1, Range::Fraction),
         Map::Luminance => numbers_alike(0, Range::Coefficient),
+        Map::Curve(transfers) => curve_numbers(transfers),
+    }
+}
+
+// 16: a table has 1 to 16 entries.
+pub fn map_tables(map: Map) -> bool
+    ensures { λ o. ⌜ o ≡ mapTables? map ⌝ }
+{
+    match map {
+        Map::Matrix => true,
+        Map::Saturate => true,
+        Map::Luminance => true,
+        Map::Curve(transfers) => are_allowed(transfers),
     }
 }
 
@@ -89,36 +132,42 @@ pub fn signature_of(kind: Kind) -> Signature
             bytes: 3,
             least: 0,
             inputs: 0,
+            tables: true,
             numbers: numbers_alike(1, Range::Fraction),
         },
         Kind::Offset => Signature {
             bytes: 0,
             least: 1,
             inputs: 1,
+            tables: true,
             numbers: numbers_alike(2, Range::Offset),
         },
         Kind::Pass(pass) => Signature {
             bytes: 0,
             least: 1,
             inputs: 1,
+            tables: true,
             numbers: pass_numbers(pass),
         },
         Kind::Map(map) => Signature {
             bytes: 0,
             least: 1,
             inputs: 1,
+            tables: map_tables(map),
             numbers: map_numbers(map),
         },
         Kind::Pair(pair) => Signature {
             bytes: 0,
             least: 1,
             inputs: 2,
+            tables: true,
             numbers: pair_numbers(pair),
         },
         Kind::Merge(n) => Signature {
             bytes: 0,
             least: 1,
             inputs: n,
+            tables: true,
             numbers: numbers_alike(0, Range::Coefficient),
         },
     }

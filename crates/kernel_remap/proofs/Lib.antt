@@ -1,3 +1,4 @@
--- Laws that the proofs of the kernel cite.
+-- Laws that the proofs of the kernels cite.
 pub mod SpaceMaps
 pub mod TableLines
+pub mod Remaps

@@ -1,15 +1,18 @@
--- The map of a space: entries of the rules' table, which are the conversion at full alpha. Assumes nothing.
+-- The map of a space: entries of the rules' table, which are the conversion at full alpha; and unpremultiplying by a divisor that is not 0.
+-- Assumes nothing.
 use Prim.Native.Nat.{ℕ, _+_, _*_, _/_, _≤_, _<_}
-use mathlib.Core.Path.{_≡_, _∙_, ap}
-use mathlib.Core.List.{List}
+use mathlib.Core.Path.{_≡_, refl, _∙_, ap}
+use mathlib.Core.Bool.{Bool, true, false, cond}
 use native.Mathlib.Omega.{arith}
+use lib.Dec.{eqb}
 use lib.ListN.{getD}
+use borrow.Author.Tests.{eqb-true, eqb-false}
 use Rattle.pixel.specs.declared.Space.{Space}
 use Rattle.pixel.specs.Alpha.{premultiplied, unpremultiplied}
 use Rattle.pixel.specs.Space.{tableOf}
 use Rattle.pixel.specs.Convert.{pairOf}
-use Rattle.pixel.proofs.Premultiplied.{unpremultiplied-is, unpremultiplied-byte}
-use Rattle.kernel_remap.specs.Code.{Mapped}
+use Rattle.pixel.proofs.Premultiplied.{premultiplied-le, unpremultiplied-is, unpremultiplied-byte}
+use Rattle.pixel.proofs.SpaceTables.{space-bytes}
 
 -- full alpha changes no colour, neither way
 pub pair-full : (to : Space) (c : ℕ) → pairOf to c 255 ≡ getD (tableOf to) c 0
@@ -18,12 +21,21 @@ pair-full to c =
     let down : premultiplied (getD (tableOf to) c 0) 255 ≡ getD (tableOf to) c 0 = omega arith in
     ap (λ (u : ℕ). premultiplied (getD (tableOf to) u 0) 255) up ∙ down
 
--- the place of a colour in the map
-pub place-byte : (c a : ℕ) → c ≤ a → 0 < a → (255 * c + a / 2) / a < 256
-place-byte c a l h = rw (unpremultiplied-is c a h) at (unpremultiplied-byte c a l)
+-- at the alpha 0 the colour is 0, and any divisor gives it
+pub divided : (c a : ℕ) → c ≤ a → (255 * c + a / 2) / cond (eqb a 0) 1 a ≡ unpremultiplied c a
+divided c a l = go (eqb a 0) refl
+  where
+    go : (t : Bool) → eqb a 0 ≡ t → (255 * c + a / 2) / cond t 1 a ≡ cond t 0 ((255 * c + a / 2) / a)
+    go true e = omega (arith, eqb-true a 0 e)
+    go false e = refl
 
--- what is found there, premultiplied
-pub pair-by : (to : Space) (map : List ℕ) (c a : ℕ) → Mapped to map → c ≤ a → 0 < a
-    → premultiplied (getD map ((255 * c + a / 2) / a) 0) a ≡ pairOf to c a
-pair-by to map c a M l h =
-    rw (unpremultiplied-is c a h) (ap (λ (u : ℕ). premultiplied u a) (M .entry ((255 * c + a / 2) / a) (place-byte c a l h)))
+pub divisor-pos : (a : ℕ) → 0 < cond (eqb a 0) 1 a
+divisor-pos a = go (eqb a 0) refl
+  where
+    go : (t : Bool) → eqb a 0 ≡ t → 0 < cond t 1 a
+    go true e = omega arith
+    go false e = omega (arith, eqb-false a 0 e)
+
+-- a converted colour is at most its alpha
+pub pair-le : (to : Space) (c a : ℕ) → c ≤ a → pairOf to c a ≤ a
+pair-le to c a l = premultiplied-le (getD (tableOf to) (unpremultiplied c a) 0) a (space-bytes to .r _ (unpremultiplied-byte c a l))

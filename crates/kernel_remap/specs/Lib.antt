@@ -1,3 +1,4 @@
--- The table of a conversion between working spaces.
+-- The table of a conversion between working spaces, and the tables of four maps.
 pub mod Pairs
+pub mod Remaps
 pub mod Code

@@ -1,6 +1,7 @@
 // Conversion between working spaces. The table of a space has the result for every colour at every alpha; a row is then worked by look-ups,
 // with no branch on what a pixel holds, since pictures may be private.
 pub mod few;
+pub mod remap;
 mod table;
 
 use pixel::Pixel;

@@ -1,16 +1,19 @@
-// The table of a space: for every colour at every alpha what the conversion makes of it.
+// Tables of byte pairs: for every colour at every alpha what a map of bytes makes of it. They are filled line by line, a line for each alpha.
 use pixel::Space;
 use pixel::alpha::premultiply;
 use pixel::convert::convert_pair;
 ghost use mathlib.Core.Path.{_≡_};
-ghost use Prim.Native.Nat.{_+_, _-_, _≤_, _<_};
+ghost use mathlib.Core.Bool.{cond};
+ghost use Prim.Native.Nat.{_+_, _≤_, _<_};
+ghost use lib.Dec.{eqb};
 ghost use lib.ListN.{length};
-ghost use Rattle.pixel.specs.Convert.{pairOf};
+ghost use Rattle.pixel.specs.Alpha.{unpremultiplied};
 ghost use Rattle.window.specs.Store.{Filled};
-ghost use Rattle.kernel_remap.specs.Code.{Mapped};
+ghost use Rattle.kernel_remap.specs.Code.{Mapped, seenColour, unpremultipliedAt, lineEntry};
 ghost use Rattle.kernel_remap.specs.Pairs.{Pairs};
+ghost use Rattle.kernel_remap.specs.Remaps.{Inner};
 
-// The colours at full alpha, where premultiplying changes nothing: the table of the rules. The entries look into it, since `convert_pair` lays
+// The colours at full alpha, where premultiplying changes nothing: the table of the rules. The lines look into it, since `convert_pair` lays
 // out its constant table in every call.
 pub(crate) fn fill_map(to: Space, map: &mut [u8])
     requires { ⌜ length (now map) ≡ 256 ⌝ }
@@ -29,23 +32,68 @@ fn clear(table: &mut [u8])
     }
 }
 
-// The colour c at the alpha a. Only the contract reads `to`.
-fn entry(to: Space, map: &[u8], c: u32, a: u32) -> u8
-    requires { ⌜ Mapped to (now map) × (c ≤ a) × (0 < a) × (a < 256) ⌝ }
-    ensures { λ r. ⌜ r ≡ pairOf to c a ⌝ }
+fn divisor(a: u32) -> u32
+    ensures { λ r. ⌜ r ≡ cond (eqb a 0) 1 a ⌝ }
 {
-    let u = (255 * c + a / 2) / a;
-    premultiply(map[u as usize], a as u8)
+    if a == 0 {
+        return 1;
+    }
+    a
 }
 
-// The colours up to the alpha a, from the index o on.
-fn fill_line(to: Space, map: &[u8], table: &mut [u8], o: usize, a: usize)
-    requires { ⌜ Mapped to (now map) × (0 < a) × (a < 256) × (o + 256 ≤ length (now table)) ⌝ }
-    ensures { λ _. ⌜ Filled (λ i. pairOf to (i - o) a) o (o + a + 1) (now (table .entry)) (now (table .exit)) ⌝ }
+// The colour c at the alpha a, unpremultiplied; at the alpha 0, where c is 0, a division by 1 gives 0 with no branch of its own.
+pub(crate) fn unpremultiply(c: u8, a: u8) -> u8
+    requires { ⌜ c ≤ a ⌝ }
+    ensures { λ r. ⌜ r ≡ unpremultiplied c a ⌝ }
 {
-    let end = o + a + 1;
+    ((255 * (c as u32) + (a as u32) / 2) / divisor(a as u32)) as u8
+}
+
+// The colour c at the alpha a, converted where there is a table for it. Only the contract reads `to`, here and below.
+fn seen(to: Space, inner: &[u8], c: usize, a: usize) -> u8
+    requires { ⌜ Inner to (now inner) × (c ≤ a) × (a < 256) ⌝ }
+    ensures { λ r. ⌜ (r ≡ seenColour to (now (inner .entry)) c a) × (r ≤ a) ⌝ }
+{
+    if inner.len() == 0 {
+        return c as u8;
+    }
+    inner[256 * a + c]
+}
+
+// The colours up to the alpha a, unpremultiplied: each is divided once, however many maps look it up.
+pub(crate) fn fill_unpremultiplied(to: Space, inner: &[u8], a: usize, line: &mut [u8])
+    requires { ⌜ Inner to (now inner) × (a < 256) × (length (now line) ≡ 256) ⌝ }
+    ensures { λ _. ⌜ Filled (unpremultipliedAt to (now (inner .entry)) a) 0 (a + 1) (now (line .entry)) (now (line .exit)) ⌝ }
+{
+    let end = a + 1;
+    for c in 0..end {
+        line[c] = unpremultiply(seen(to, inner, c, a), a as u8);
+    }
+}
+
+// A byte as an index.
+pub(crate) fn place(c: u8) -> usize
+    ensures { λ r. ⌜ (r ≡ c) × (r < 256) ⌝ }
+{
+    c as usize
+}
+
+// A line of n entries of a table, from the index o on: the colours of `line` by the map that starts at m, premultiplied by the alpha b.
+pub(crate) fn fill_line(
+    maps: &[u8],
+    m: usize,
+    line: &[u8],
+    table: &mut [u8],
+    o: usize,
+    n: usize,
+    b: u8,
+)
+    requires { ⌜ (m + 256 ≤ length (now maps)) × (length (now line) ≡ 256) × (n ≤ 256) × (o + n ≤ length (now table)) ⌝ }
+    ensures { λ _. ⌜ Filled (lineEntry (now (maps .entry)) m (now (line .entry)) o b) o (o + n) (now (table .entry)) (now (table .exit)) ⌝ }
+{
+    let end = o + n;
     for i in o..end {
-        table[i] = entry(to, map, (i - o) as u32, a as u32);
+        table[i] = premultiply(maps[m + place(line[i - o])], b);
     }
 }
 
@@ -55,7 +103,10 @@ pub(crate) fn fill_lines(to: Space, map: &[u8], table: &mut [u8])
     ensures { λ _. ⌜ Pairs to (now (table .exit)) ⌝ }
 {
     clear(table);
+    let none = &map[..0];
+    let mut line = [0u8; 256];
     for a in 1usize..256 {
-        fill_line(to, map, table, 256 * a, a);
+        fill_unpremultiplied(to, none, a, &mut line);
+        fill_line(map, 0, &line, table, 256 * a, a + 1, a as u8);
     }
 }

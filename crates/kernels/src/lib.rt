@@ -3,5 +3,6 @@ pub mod blur;
 pub mod color;
 pub mod composite;
 pub mod convert;
+pub mod curve;
 pub mod morph;
 pub mod row;

@@ -11,10 +11,14 @@ ghost use Rattle.filter.specs.Limits.{longestSide, mostPixels, mostSteps};
 ghost use Rattle.damage.specs.InputRects.{AllWithin};
 use damage::SoFar;
 use filter::Answer;
+use filter::Kind;
+use filter::Map;
 use filter::Rect;
 use filter::Region;
 use filter::Sheet;
 use filter::Step;
+use pixel::Transfer;
+use pixel::Transfers;
 use tables::field::hex;
 use text::Form;
 use text::ReadAnswer;
@@ -64,6 +68,45 @@ fn print_rooms() {
     print_room(good, 3);
     print_room(good, 4);
     print_room(b"lumalpha\t0\t0\t1\t1\tsrc\nlumalpha\t0\t0\t1\t1\n", 0);
+}
+
+// Records of a curve as step 2 whose red has so many entries: what no line of the form can claim.
+
+fn curve_of(count: usize) -> Step {
+    let blank = Step::blank();
+    let transfers = Transfers {
+        r: Transfer::Table(count),
+        g: Transfer::Identity,
+        b: Transfer::Identity,
+        a: Transfer::Identity,
+    };
+    let kind = Kind::Map(Map::Curve(transfers));
+    let region = blank.region;
+    let inputs = blank.inputs;
+    let numbers = blank.numbers;
+    let space = blank.space;
+    Step {
+        kind,
+        region,
+        inputs,
+        numbers,
+        space,
+    }
+}
+
+fn print_entries(count: usize) {
+    print_word(b"Entries");
+    print_number(count as u64);
+    print_answer(checks::checks::check_step(1, 1, 2, curve_of(count)));
+    end_line();
+}
+
+fn print_counts() {
+    print_entries(0);
+    print_entries(1);
+    print_entries(16);
+    print_entries(17);
+    print_entries(1000000);
 }
 
 // The table.
@@ -224,5 +267,6 @@ fn print_plan_table() {
 
 fn main() {
     print_rooms();
+    print_counts();
     print_plan_table();
 }

@@ -15,7 +15,8 @@ use Rattle.text_field.specs.Field.{same, hexOf, given?, valueIn}
 use Rattle.text_field.specs.declared.Amount.{Amount}
 use Rattle.text_field.specs.declared.Amount.the-variants.{Is, Not}
 use Rattle.text_step.specs.ManyFields.{allFields, flattened, stored}
-use Rattle.text_step.specs.StepLine.{stepOf, wholeField}
+use Rattle.text_step.specs.Fields.{wholeField}
+use Rattle.text_step.specs.StepLine.{stepOf}
 use Rattle.text_step.specs.declared.StepLine.{StepLine}
 use Rattle.text_step.proofs.FieldsGathered.{FieldsGathered, fields-gathered-more}
 use Rattle.text_step.proofs.StoredBytes.{stored-next, stored-length, flattened-more, flattened-fours}

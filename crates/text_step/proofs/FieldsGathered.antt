@@ -2,12 +2,13 @@
 use mathlib.Core.Path.{_≡_, refl, sym, ap, _∙_}
 use mathlib.Core.Bool.{Bool, true, false, _&&_}
 use mathlib.Core.List.{List, [], _∷_, _++_, map}
-use Prim.Native.Nat.{ℕ, suc, _+_, _-_, _≤_, _<_}
+use Prim.Native.Nat.{ℕ, zero, suc, _+_, _-_, _≤_, _<_}
 use native.Mathlib.Nat.{sub-zero}
 use native.Mathlib.Numerals.{add-one}
 use native.Mathlib.Omega.{arith}
-use lib.ListN.{length, getD, take, drop, set, replicate, length-append, length-drop, length-map}
-use lib.Seq.{take-suc, split-at, set-at, append-snoc, take-all, getD-drop, getD-take, length-take-le}
+use lib.ListN.{length, getD, take, drop, set, replicate, length-append, length-map}
+use lib.Seq.{take-suc, split-at, set-at, append-snoc, take-all, length-take-le}
+use Rattle.filter.specs.Steps.{listed}
 use Rattle.text_step.specs.ManyFields.{allFields, padded}
 
 pub all-fields-append : (good : List ℕ → Bool) (a b : List (List ℕ)) → allFields good (a ++ b) ≡ (allFields good a && allFields good b)
@@ -80,9 +81,15 @@ array-more good value m z fs n i vs x I k h e v =
     (ap (λ l. set l i x) (I .is) ∙ padded-more m z (map value (take i fs)) x i (fields-gathered-length good value (padded m z) fs n i vs I) (omega arith)
     ∙ ap (λ y. padded m z (map value (take i fs) ++ (y ∷ []))) (sym v))
 
--- the i-th of n fields from a place on
-pub field-of : (fs : List (List ℕ)) (at n i : ℕ) → i < n → getD (take n (drop at fs)) i [] ≡ getD fs (at + i) []
-field-of fs at n i h = getD-take n (drop at fs) i [] h ∙ getD-drop at fs i []
+-- fields by position: field i of n, and that there are n
+listed-at : (f : ℕ → List ℕ) (i n k : ℕ) → k < n → getD (listed f i n) k [] ≡ f (i + k)
+listed-at f i zero k l = absurd (omega arith)
+listed-at f i (suc n) zero l = let e : i + 0 ≡ i = omega arith in rw e
+listed-at f i (suc n) (suc k) l = let e : i + suc k ≡ suc i + k = omega arith in rw e (listed-at f (suc i) n k (omega arith))
 
-pub fields-long : (fs : List (List ℕ)) (at n : ℕ) → at + n ≤ length fs → length (take n (drop at fs)) ≡ n
-fields-long fs at n h = length-take-le n (drop at fs) (omega (arith, length-drop at fs))
+pub field-of : (f : ℕ → List ℕ) (n i : ℕ) → i < n → getD (listed f 0 n) i [] ≡ f i
+field-of f n i h = let e : 0 + i ≡ i = omega arith in listed-at f 0 n i h ∙ ap f e
+
+pub fields-long : (f : ℕ → List ℕ) (i n : ℕ) → length (listed f i n) ≡ n
+fields-long f i zero = refl
+fields-long f i (suc n) = ap suc (fields-long f (suc i) n)

@@ -2,4 +2,6 @@
 pub mod FieldsGathered
 pub mod StoredBytes
 pub mod SpaceField
+pub mod Transferred
+pub mod Placed
 pub mod StepLineParts

@@ -1,12 +1,11 @@
 -- The working space at the end of a step's line. Assumes nothing.
-use mathlib.Core.Path.{_≡_, refl, sym, ap, _∙_}
-use mathlib.Core.Bool.{Bool, true, false, _&&_, _||_}
+use mathlib.Core.Path.{_≡_, sym, ap, _∙_}
+use mathlib.Core.Bool.{Bool, true, false, _&&_}
 use mathlib.Core.List.{List, []}
-use Prim.Native.Nat.{ℕ, _+_, _-_, _≤_}
-use native.Mathlib.Omega.{arith}
+use Prim.Native.Nat.{ℕ, _+_, _-_}
 use lib.Dec.{eqb}
 use lib.ListN.{length, getD}
-use borrow.Author.Tests.{eq-eqb, ne-eqb, eqb-true}
+use borrow.Author.Tests.{eq-eqb, ne-eqb}
 use Rattle.pixel.specs.declared.Space.the-variants.{Srgb, Linear}
 use Rattle.text_field.specs.Words.{bytes}
 use Rattle.text_field.specs.Field.{same}
@@ -41,16 +40,6 @@ module _ (n : ℕ) (fs : List (List ℕ)) where
   pub closed-other : {b : Bool} → (length fs ≡ n → ⊥) → b ≡ (eqb (length fs) (n + 1) && space? (getD fs n [])) → b ≡ closed? n fs
   unfolding closed?
   closed-other e h = h ∙ rw (ne-eqb (length fs) n e)
-
-  -- a line that is closed has all the fields before
-  pub closed-long : closed? n fs ≡ true → n ≤ length fs
-  unfolding closed?
-  closed-long h = go (eqb (length fs) n) (eqb (length fs) (n + 1)) refl refl h
-    where
-      go : (a b : Bool) → eqb (length fs) n ≡ a → eqb (length fs) (n + 1) ≡ b → (a || (b && space? (getD fs n []))) ≡ true → n ≤ length fs
-      go true b e f q = omega (arith, eqb-true (length fs) n e)
-      go false true e f q = omega (arith, eqb-true (length fs) (n + 1) f)
-      go false false e f q = absurd (let z : _≡_ {A = ℕ} 0 1 = cc in omega arith)
 
 -- a merge's inputs, by its last field
 module _ (fs : List (List ℕ)) {n k : ℕ} {f : List ℕ} {b : Bool} (l : n ≡ length fs) (e : k ≡ n - 1) (g : f ≡ getD fs k []) (h : b ≡ space? f) where

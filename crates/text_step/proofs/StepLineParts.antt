@@ -3,21 +3,19 @@ use mathlib.Core.Path.{_≡_, sym, ap, _∙_}
 use mathlib.Core.Bool.{Bool, true, false, _&&_}
 use mathlib.Core.List.{List, [], _∷_, map}
 use Prim.Native.Nat.{ℕ, _+_, _≤_}
-use native.Mathlib.Omega.{arith}
-use lib.Dec.{leb, lit≤}
-use lib.ListN.{take, drop, replicate}
+use lib.Dec.{leb}
+use lib.ListN.{replicate}
 use borrow.Author.Tests.{leb-true}
 use Rattle.window.proofs.Truths.{and-left, and-right, and-no}
 use Rattle.pixel.specs.declared.Space.{Space}
 use Rattle.filter.specs.declared.Input.the-variants.{Source, SourceAlpha}
 use Rattle.filter.specs.declared.Kind.{Kind}
-use Rattle.filter.specs.declared.Kind.the-variants as K
 use Rattle.filter.specs.declared.Region.{Region}
 use Rattle.filter.specs.declared.StepInput.{StepInput}
 use Rattle.filter.specs.declared.StepNumber.{StepNumber}
 use Rattle.filter.specs.declared.Signature.{Signature}
 use Rattle.filter.specs.Limits.{mostNumbers}
-use Rattle.filter.specs.Signature.{numberCount, signatureOf, byteFieldsOf, inputsOf, numbersOf}
+use Rattle.filter.specs.Signature.{numberCount, signatureOf, inputsOf}
 use Rattle.filter.specs.Checks.{merges?}
 use Rattle.filter.specs.Steps.{noInput, noNumber}
 use Rattle.text_field.specs.Words.{bytes}
@@ -25,7 +23,8 @@ use Rattle.text_field.specs.Field.{same, wholeOf}
 use Rattle.text_field.specs.declared.Amount.{Amount}
 use Rattle.text_step.specs.ManyFields.{allFields, padded}
 use Rattle.text_step.specs.Spaces.{spaceAt, closed?}
-use Rattle.text_step.specs.Kinds.{kindOf, fieldsOf, bytes?, sound?}
+use Rattle.text_step.specs.Kinds.{kindOf, details?, sound?}
+use Rattle.text_step.specs.Layout.{numberField, fieldsOf, fieldsFrom, numberFields}
 use Rattle.text_step.specs.StepLine.{region?, regionOf, layerReference, inputOf, input?, stepInputOf, stepInputsOf, number?, stepNumberOf, stepNumbersOf, noStep, assembled, stepAs, stepOf}
 use Rattle.text_step.specs.declared.Reference.{Reference}
 use Rattle.text_step.specs.declared.Reference.the-variants.{To}
@@ -67,33 +66,14 @@ module _ (f : List ℕ) {a : Bool} (e : a ≡ same f (bytes "src")) where
   input-layer t g u x y = y ∙ rw (sym e ∙ t, sym g ∙ u, x)
 
 -- a sound kind, by its row
-pub sound-is : (k : Kind) (fs : List (List ℕ)) {r : Signature} {m : ℕ} {a b y o : Bool} → r ≡ signatureOf k → a ≡ merges? r → m ≡ numberCount (r .numbers)
-    → y ≡ bytes? k fs → b ≡ (leb m mostNumbers && y) → o ≡ (a && b) → o ≡ sound? k fs
-sound-is k fs er ea em ey eb eo = eo ∙ rw (ea, eb, em, ey, er)
+pub sound-is : (k : Kind) (fs : List (List ℕ)) {r : Signature} {a b y o : Bool} → r ≡ signatureOf k → a ≡ merges? r → y ≡ details? k fs
+    → b ≡ (r .tables && y) → o ≡ (a && b) → o ≡ sound? k fs
+sound-is k fs er ea ey eb eo = eo ∙ rw (ea, eb, ey, er)
 
--- a sound kind has few fields
-few-bytes : (k : Kind) → byteFieldsOf k ≤ 3
-few-bytes (K.Flood r g b) = lit≤ tt
-few-bytes K.Offset = lit≤ tt
-few-bytes (K.Pass p) = lit≤ tt
-few-bytes (K.Map m) = lit≤ tt
-few-bytes (K.Pair p) = lit≤ tt
-few-bytes (K.Merge n) = lit≤ tt
-
-sound-inputs : (k : Kind) (fs : List (List ℕ)) → sound? k fs ≡ true → inputsOf k ≤ 4
-sound-inputs k fs e =
-    leb-true (inputsOf k) 4 (and-right (leb (signatureOf k .least) (inputsOf k)) (leb (inputsOf k) 4) (and-left (merges? (signatureOf k)) (leb (numbersOf k) mostNumbers && bytes? k fs) e))
-
-sound-numbers : (k : Kind) (fs : List (List ℕ)) → sound? k fs ≡ true → numbersOf k ≤ mostNumbers
-sound-numbers k fs e =
-    leb-true (numbersOf k) mostNumbers (and-left (leb (numbersOf k) mostNumbers) (bytes? k fs) (and-right (merges? (signatureOf k)) (leb (numbersOf k) mostNumbers && bytes? k fs) e))
-
-pub few-fields : (k : Kind) (fs : List (List ℕ)) {r : Signature} {s : Bool} {m : ℕ} → r ≡ signatureOf k → s ≡ sound? k fs → s ≡ true → m ≡ numberCount (r .numbers)
-    → (r .inputs ≤ 4) × (m ≤ mostNumbers) × (5 + r .bytes + r .inputs + m ≤ 12 + mostNumbers)
-few-fields k fs er e h em =
-    let i = sound-inputs k fs (sym e ∙ h) in
-    let n = sound-numbers k fs (sym e ∙ h) in
-    rw (em, er) (i, n, omega (arith, few-bytes k, i, n))
+-- it has few inputs
+pub few-inputs : (k : Kind) (fs : List (List ℕ)) {r : Signature} {s : Bool} → r ≡ signatureOf k → s ≡ sound? k fs → s ≡ true → r .inputs ≤ 4
+few-inputs k fs er e h =
+    rw er (leb-true (inputsOf k) 4 (and-right (leb (signatureOf k .least) (inputsOf k)) (leb (inputsOf k) 4) (and-left (merges? (signatureOf k)) (signatureOf k .tables && details? k fs) (sym e ∙ h))))
 
 -- the parts together
 module _ (k : Kind) (t : Bool) (r : Region) (w : StepInputs) (o : StepNumbers) (p : Space) {a b : Bool} (e : a ≡ (w .good && o .good)) (f : b ≡ (t && a)) where
@@ -106,24 +86,24 @@ module _ (k : Kind) (t : Bool) (r : Region) (w : StepInputs) (o : StepNumbers) (
   assembled-bad g d = d ∙ rw (sym (ap (t &&_) e) ∙ sym f ∙ g)
 
 -- the line of a kind
-needed : (k : Kind) {r : Signature} {m n : ℕ} → r ≡ signatureOf k → m ≡ numberCount (r .numbers) → n ≡ 5 + r .bytes + r .inputs + m → n ≡ fieldsOf k
-needed k er em en = en ∙ rw (em, er)
+pub needed : (k : Kind) {r : Signature} {m n : ℕ} → r ≡ signatureOf k → m ≡ numberCount (r .numbers) → n ≡ numberField k m → n ≡ fieldsOf k
+needed k er em en = en ∙ ap (numberField k) (em ∙ ap (λ (r : Signature). numberCount (r .numbers)) er)
 
 module _ (k : Kind) (fs : List (List ℕ)) {o : StepLine} {s : Bool} (e : s ≡ sound? k fs) where
   pub as-unsound : s ≡ false → o ≡ noStep → o ≡ stepAs k fs
   unfolding stepAs
   as-unsound h d = d ∙ rw (sym e ∙ h)
 
-  module _ {r : Signature} {m n : ℕ} (er : r ≡ signatureOf k) (em : m ≡ numberCount (r .numbers)) (en : n ≡ 5 + r .bytes + r .inputs + m) {c : Bool} (ec : c ≡ closed? n fs) where
+  module _ {n : ℕ} (en : n ≡ fieldsOf k) {c : Bool} (ec : c ≡ closed? n fs) where
     pub as-open : c ≡ false → o ≡ noStep → o ≡ stepAs k fs
     unfolding stepAs
-    as-open h d = d ∙ rw (sym (needed k er em en), sym ec ∙ h, and-no (sound? k fs))
+    as-open h d = d ∙ rw (ap (λ (j : ℕ). closed? j fs) (sym en) ∙ sym ec ∙ h, and-no (sound? k fs))
 
-    pub as-good : {t : Bool} {g : Region} {w : StepInputs} {v : StepNumbers} {p : Space} → s ≡ true → c ≡ true
-        → t ≡ region? fs → g ≡ regionOf fs → w ≡ stepInputsOf (take (r .inputs) (drop (5 + r .bytes) fs)) → v ≡ stepNumbersOf (take m (drop (5 + r .bytes + r .inputs) fs)) → p ≡ spaceAt fs n
+    pub as-good : {r : Signature} {t : Bool} {g : Region} {w : StepInputs} {v : StepNumbers} {p : Space} → s ≡ true → c ≡ true → r ≡ signatureOf k
+        → t ≡ region? fs → g ≡ regionOf fs → w ≡ stepInputsOf (fieldsFrom (5 + r .bytes) (r .inputs) fs) → v ≡ stepNumbersOf (numberFields k fs) → p ≡ spaceAt fs n
         → o ≡ assembled k t g w v p → o ≡ stepAs k fs
     unfolding stepAs
-    as-good l h x y z v u d = d ∙ rw (x, y, z, v, u, sym (needed k er em en), sym ec ∙ h, sym e ∙ l, em, er)
+    as-good l h er x y z v u d = d ∙ rw (x, y, z, v, er, u ∙ ap (spaceAt fs) en, ap (λ (j : ℕ). closed? j fs) (sym en) ∙ sym ec ∙ h, sym e ∙ l)
 
 -- a step's line by its kind
 module _ (fs : List (List ℕ)) {t : KindFound} {o : StepLine} (e : t ≡ kindOf fs) where

@@ -1,5 +1,9 @@
--- The line of a step: several fields, its working space, kinds, and the step.
+-- The line of a step: several fields, fields by position, its working space, a curve's transfers, kinds, where their numbers stand, and the step.
 pub mod ManyFields
+pub mod Fields
 pub mod Spaces
+pub mod Transfers
 pub mod Kinds
+pub mod Layout
 pub mod StepLine
+pub mod Examples

@@ -1,8 +1,8 @@
 -- A step's line, as its fields: "A step is its kind, x, y, width, height, inputs, numbers", and its working space. Assumes nothing.
 use mathlib.Core.Bool.{Bool, true, false, cond, _&&_}
 use mathlib.Core.List.{List, [], _∷_, map}
-use Prim.Native.Nat.{ℕ, _+_}
-use lib.ListN.{getD, take, drop, replicate}
+use Prim.Native.Nat.{ℕ}
+use lib.ListN.{replicate}
 use Rattle.pixel.specs.declared.Space.{Space}
 use Rattle.filter.specs.declared.Region.{Region}
 use Rattle.filter.specs.declared.Input.the-variants.{Source, SourceAlpha, Layer}
@@ -10,17 +10,18 @@ use Rattle.filter.specs.declared.StepInput.{StepInput}
 use Rattle.filter.specs.declared.StepNumber.{StepNumber}
 use Rattle.filter.specs.declared.Kind.{Kind}
 use Rattle.filter.specs.Limits.{mostNumbers}
-use Rattle.filter.specs.Signature.{byteFieldsOf, inputsOf, numbersOf}
 use Rattle.filter.specs.Steps.{noInput, noNumber, blankStep}
 use Rattle.text_field.specs.Words.{bytes}
-use Rattle.text_field.specs.Field.{same, wholeOf, numeralOf, given?, valueIn}
+use Rattle.text_field.specs.Field.{same, wholeOf, numeralOf, given?}
 use Rattle.text_field.specs.declared.Amount.{Amount}
 use Rattle.text_field.specs.declared.Amount.the-variants.{Is, Not}
 use Rattle.text_field.specs.declared.Numeral.{Numeral}
 use Rattle.text_field.specs.declared.Numeral.the-variants.{Reads, Malformed}
 use Rattle.text_step.specs.ManyFields.{allFields, padded}
+use Rattle.text_step.specs.Fields.{wholeField, wholeAt}
 use Rattle.text_step.specs.Spaces.{spaceAt, closed?}
-use Rattle.text_step.specs.Kinds.{kindOf, fieldsOf, sound?}
+use Rattle.text_step.specs.Kinds.{kindOf, sound?}
+use Rattle.text_step.specs.Layout.{fieldsOf, inputFields, numberFields}
 use Rattle.text_step.specs.declared.Reference.{Reference}
 use Rattle.text_step.specs.declared.Reference.the-variants.{To, Nowhere}
 use Rattle.text_step.specs.declared.KindFound.{KindFound}
@@ -28,13 +29,6 @@ use Rattle.text_step.specs.declared.KindFound.the-variants.{Known, Unkno
 use Rattle.text_step.specs.declared.StepInputs.{StepInputs}
 use Rattle.text_step.specs.declared.StepNumbers.{StepNumbers}
 use Rattle.text_step.specs.declared.StepLine as L
-
--- field i as a whole field
-abbrev pub wholeField : List (List ℕ) → ℕ → Amount
-wholeField fs i = wholeOf (getD fs i [])
-
-abbrev pub wholeAt : List (List ℕ) → ℕ → ℕ
-wholeAt fs i = valueIn (wholeField fs i)
 
 -- "x, y, width, height"
 abbrev pub region? : List (List ℕ) → Bool
@@ -99,14 +93,11 @@ assembled k b r w o s =
     (record { good = true; step = record { kind = k; region = r; inputs = w .inputs; numbers = o .numbers; space = s } })
     noStep
 
--- the line of a kind: five fields, the kind's bytes, inputs and numbers, and no more than a working space
+-- the line of a kind: its fields, and no more than a working space behind them
 unfoldable pub stepAs : Kind → List (List ℕ) → L.StepLine
 stepAs k fs =
     cond (sound? k fs && closed? (fieldsOf k) fs)
-    (assembled k (region? fs) (regionOf fs)
-    (stepInputsOf (take (inputsOf k) (drop (5 + byteFieldsOf k) fs)))
-    (stepNumbersOf (take (numbersOf k) (drop (5 + byteFieldsOf k + inputsOf k) fs)))
-    (spaceAt fs (fieldsOf k)))
+    (assembled k (region? fs) (regionOf fs) (stepInputsOf (inputFields k fs)) (stepNumbersOf (numberFields k fs)) (spaceAt fs (fieldsOf k)))
     noStep
 
 abbrev pub stepFor : KindFound → List (List ℕ) → L.StepLine

@@ -1,7 +1,10 @@
 // The line of one step: RULES 9.
+pub mod fields;
 mod kinds;
+mod layout;
 mod spaces;
 pub mod step_lines;
+mod transfers;
 
 use filter::Input;
 use filter::Kind;
@@ -9,6 +12,24 @@ use filter::Sheet;
 use filter::Step;
 use filter::StepInput;
 use filter::StepNumber;
+use pixel::Transfers;
+
+// What a line says beside its word, inputs and numbers: a flood's bytes, how many inputs a merge has, a curve's transfers.
+pub struct Details {
+    pub r: u8,
+    pub g: u8,
+    pub b: u8,
+    pub inputs: usize,
+    pub transfers: Transfers,
+}
+
+// The fields in front of each group of a kind's numbers that are no numbers.
+pub struct Heads {
+    pub first: usize,
+    pub second: usize,
+    pub third: usize,
+    pub fourth: usize,
+}
 
 // The kind that a step line names.
 pub enum KindFound {

@@ -4,14 +4,18 @@ use super::Reference;
 use super::StepInputs;
 use super::StepLine;
 use super::StepNumbers;
+use super::fields::whole_at;
+use super::fields::whole_given;
 use super::kinds::is_sound;
 use super::kinds::kind_of;
+use super::layout::number_field;
 use super::spaces::is_closed;
 use super::spaces::space_at;
 use filter::Input;
 use filter::Kind;
 use filter::Region;
 use filter::Sheet;
+use filter::Signature;
 use filter::Step;
 use filter::StepInput;
 use filter::StepNumber;
@@ -25,31 +29,15 @@ use text_field::decimals::numeral_of;
 use text_field::lines::count;
 use text_field::lines::equals;
 use text_field::lines::field;
-use text_field::wholes::is_given;
-use text_field::wholes::value_in;
 use text_field::wholes::whole;
 use window::both;
 ghost use mathlib.Core.Path.{_≡_};
-ghost use Prim.Native.Nat.{_+_, _≤_};
-ghost use lib.ListN.{length, take, drop};
-ghost use Rattle.filter.specs.Limits.{mostNumbers};
+ghost use Prim.Native.Nat.{_≤_};
+ghost use lib.ListN.{length};
+ghost use Rattle.filter.specs.Signature.{signatureOf, numbersOf};
 ghost use Rattle.text_field.specs.Split.{split};
-ghost use Rattle.text_field.specs.Field.{given?};
-ghost use Rattle.text_step.specs.StepLine.{wholeField, wholeAt, region?, regionOf, layerReference, inputOf, stepInputsOf, stepNumbersOf};
-ghost use Rattle.text_step.specs.StepLine.{noStep, assembled, stepAs, stepOf};
-
-// Field i as a whole field.
-pub fn whole_at(line: &[u8], i: usize) -> usize
-    ensures { λ o. ⌜ o ≡ wholeAt (split 9 (now (line .entry))) i ⌝ }
-{
-    value_in(whole(field(line, i))) as usize
-}
-
-fn whole_given(line: &[u8], i: usize) -> bool
-    ensures { λ o. ⌜ o ≡ given? (wholeField (split 9 (now (line .entry))) i) ⌝ }
-{
-    is_given(whole(field(line, i)))
-}
+ghost use Rattle.text_step.specs.Layout.{fieldsFrom, numberFields};
+ghost use Rattle.text_step.specs.StepLine.{region?, regionOf, layerReference, inputOf, stepInputsOf, stepNumbersOf, noStep, assembled, stepAs, stepOf};
 
 fn region_given(line: &[u8]) -> bool
     ensures { λ o. ⌜ o ≡ region? (split 9 (now (line .entry))) ⌝ }
@@ -98,8 +86,8 @@ fn input_of(f: &[u8]) -> Reference
 
 // The inputs of n fields from the field at on.
 fn step_inputs(line: &[u8], at: usize, n: usize) -> StepInputs
-    requires { ⌜ (n ≤ 4) × (at + n ≤ length (split 9 (now line))) ⌝ }
-    ensures { λ r. ⌜ r ≡ stepInputsOf (take n (drop at (split 9 (now (line .entry))))) ⌝ }
+    requires { ⌜ (at ≤ 8) × (n ≤ 4) ⌝ }
+    ensures { λ r. ⌜ r ≡ stepInputsOf (fieldsFrom at n (split 9 (now (line .entry)))) ⌝ }
 {
     let source = StepInput {
         input: Input::Source,
@@ -123,10 +111,10 @@ fn step_inputs(line: &[u8], at: usize, n: usize) -> StepInputs
     StepInputs { good: true, inputs }
 }
 
-// The numbers of n fields from the field at on.
-fn step_numbers(line: &[u8], at: usize, n: usize) -> StepNumbers
-    requires { ⌜ (n ≤ mostNumbers) × (at + n ≤ length (split 9 (now line))) ⌝ }
-    ensures { λ r. ⌜ r ≡ stepNumbersOf (take n (drop at (split 9 (now (line .entry))))) ⌝ }
+// The numbers of a kind's line.
+fn step_numbers(line: &[u8], kind: Kind, row: Signature, n: usize) -> StepNumbers
+    requires { ⌜ (row ≡ signatureOf kind) × (row .inputs ≤ 4) × (n ≡ numbersOf kind) ⌝ }
+    ensures { λ r. ⌜ r ≡ stepNumbersOf (numberFields kind (split 9 (now (line .entry)))) ⌝ }
 {
     let zero = StepNumber {
         number: Number::Decimal(0),
@@ -134,7 +122,7 @@ fn step_numbers(line: &[u8], at: usize, n: usize) -> StepNumbers
     let mut numbers = [zero; Sheet::NUMBERS];
     let mut i = 0;
     while i < n {
-        match numeral_of(field(line, at + i)) {
+        match numeral_of(field(line, number_field(kind, row, i))) {
             Numeral::Reads(x) => {
                 numbers[i] = StepNumber { number: x };
             }
@@ -198,10 +186,8 @@ fn step_as(line: &[u8], kind: Kind, n: usize) -> StepLine
     if !is_sound(kind, row, line) {
         return no_step();
     }
-    let bytes = row.bytes;
-    let inputs = row.inputs;
     let numbers = number_count(row.numbers);
-    let fields = 5 + bytes + inputs + numbers;
+    let fields = number_field(kind, row, numbers);
     if !is_closed(line, n, fields) {
         return no_step();
     }
@@ -209,8 +195,8 @@ fn step_as(line: &[u8], kind: Kind, n: usize) -> StepLine
         kind,
         region_given(line),
         region_of(line),
-        step_inputs(line, 5 + bytes, inputs),
-        step_numbers(line, 5 + bytes + inputs, numbers),
+        step_inputs(line, 5 + row.bytes, row.inputs),
+        step_numbers(line, kind, row, numbers),
         space_at(line, fields),
     )
 }

@@ -1,7 +1,8 @@
 //! Calls whose lines are worked out by hand: the examples of RULES 11, halves between two units, each refusal, and linear
-//! light. The lines: tests/calls.expected.
+//! light; last the curves of listed_curves.rs. The lines: tests/calls.expected.
 
 use super::calls::Entry;
+use super::listed_curves::curves;
 use super::Case;
 use crate::print::in_srgb;
 use crate::step::Region;
@@ -28,14 +29,14 @@ fn as_written(name: &str, show: char, width: usize, height: usize, lines: &str) 
 }
 
 /// A call on a row of alphas, or on a column; a width of 1 makes a column.
-fn line(name: &str, width: usize, alphas: &[u8], step: &str, rect: [usize; 4]) -> Entry {
+pub fn line(name: &str, width: usize, alphas: &[u8], step: &str, rect: [usize; 4]) -> Entry {
     let mut call = call(name, 'a', width, alphas.len() / width, &format!("{step}\n"));
     call.case.source = alphas.iter().flat_map(|alpha| [0, 0, 0, *alpha]).collect();
     call.changed(rect)
 }
 
 /// A call on one pixel.
-fn pixel(name: &str, source: u32, lines: &str, workspace: &[u32]) -> Entry {
+pub fn pixel(name: &str, source: u32, lines: &str, workspace: &[u32]) -> Entry {
     let mut call = call(name, 'x', 1, 1, lines);
     call.case.source = source.to_be_bytes().to_vec();
     call.case.workspace = bytes(workspace);
@@ -137,7 +138,7 @@ fn neighbourhoods() -> Vec<Entry> {
 }
 
 /// Lines as they stand, on a row of pixels.
-fn spaced(name: &str, source: &[u32], lines: &str) -> Entry {
+pub fn spaced(name: &str, source: &[u32], lines: &str) -> Entry {
     let mut call = as_written(name, 'x', source.len(), 1, lines);
     call.case.source = bytes(source);
     call
@@ -170,7 +171,7 @@ fn linear_light() -> Vec<Entry> {
 }
 
 /// Two steps on 2 by 2 pixels, the second as given.
-fn second(name: &str, step: &str) -> Entry {
+pub fn second(name: &str, step: &str) -> Entry {
     let mut call = call(name, '-', 2, 2, &format!("lumalpha 0 0 2 2 src\n{step}\n"));
     call.case.source = bytes(&[0x10, 0x20, 0x30, 0x40]);
     call
@@ -237,6 +238,7 @@ fn pixels_and_order() -> Vec<Entry> {
         second("11 before 8", "offset 2 2 1 1 0 0.5 x7fc00000"),
         second("11 before 13", "offset 2 2 1 1 0 0.5 0"),
         second("13 before 14", "lumalpha 1 0 2 2 src").with(|call| above(&mut call.case.source, 0)),
+        call("2 before 3", '-', 2, 2, "").with(|call| call.case.source.truncate(15)),
         plain("5 before 6", |call| call.case.scratch.truncate(31)).changed([1, 0, 2, 1]),
         second("6 before 7", "over 0 0 2 2 src 1").changed([0, 0, 3, 0]),
         second("15 line", "merge 0 0 2 2"),
@@ -265,6 +267,7 @@ fn long() -> Vec<Entry> {
 }
 
 pub fn listed() -> Vec<Entry> {
-    let all = [pixels(), halves(), neighbourhoods(), sizes(), steps(), pixels_and_order(), long(), linear_light()];
+    let all =
+        [pixels(), halves(), neighbourhoods(), sizes(), steps(), pixels_and_order(), long(), linear_light(), curves()];
     all.into_iter().flatten().collect()
 }

@@ -1,7 +1,9 @@
 //! Random calls: sheets, pictures, buffers and rectangles, valid ones and damaged ones.
 
 pub mod calls;
+mod curves;
 mod listed;
+mod listed_curves;
 pub mod numbers;
 pub mod plans;
 pub mod spoil;
@@ -72,7 +74,10 @@ fn input(random: &mut Random, n: usize, wild: bool) -> Input {
 
 /// Step n of a sheet; a wild one may earn a refusal.
 pub fn step(random: &mut Random, n: usize, width: usize, height: usize, wild: bool) -> Step {
-    let kind = random.pick(&KINDS).1;
+    let kind = match random.pick(&KINDS).1 {
+        Kind::Curve(_) => Kind::Curve(curves::transfers(random, wild)),
+        kind => kind,
+    };
     let (least, most) = kind.inputs();
     let mut inputs = random.within(least as i64, most as i64) as usize;
     if wild && kind == Kind::Merge && random.once_in(8) {
@@ -85,7 +90,7 @@ pub fn step(random: &mut Random, n: usize, width: usize, height: usize, wild: bo
             numbers::allowed(random, range)
         }
     };
-    let mut numbers: Vec<Number> = kind.ranges().iter().map(|range| number(random, *range)).collect();
+    let mut numbers: Vec<Number> = kind.ranges().map(|range| number(random, range)).collect();
     if !wild && random.once_in(2) {
         plain_numbers(random, kind, &mut numbers);
     }
@@ -106,12 +111,13 @@ pub fn step(random: &mut Random, n: usize, width: usize, height: usize, wild: bo
 const BOTH: [Space; 2] = [Space::Srgb, Space::Linear];
 
 /// Makes the numbers of a matrix or an arithmetic step such that they show: most of them 0, or two that lie at an edge.
-/// A saturate's comes to lie where its coefficients are halves.
+/// A saturate's comes to lie where its coefficients are halves, a curve's where its results are.
 fn plain_numbers(random: &mut Random, kind: Kind, numbers: &mut [Number]) {
     let fine = random.once_in(2);
     let row = match kind {
         Kind::Matrix => 5,
         Kind::Arithmetic => 4,
+        Kind::Curve(transfers) => return curves::plain(random, transfers, numbers),
         Kind::Saturate if fine => return numbers.fill(numbers::saturate_half(random)),
         _ => return,
     };

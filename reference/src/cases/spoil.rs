@@ -3,7 +3,7 @@
 use crate::random::Random;
 
 /// Fields to put in another's place.
-const ODD_FIELDS: [&str; 52] = [
+const ODD_FIELDS: [&str; 57] = [
     "",
     "0",
     "00",
@@ -56,6 +56,11 @@ const ODD_FIELDS: [&str; 52] = [
     "Linear",
     "linearRGB",
     "linear ",
+    "identity",
+    "table",
+    "discrete",
+    "Table",
+    "gamma",
 ];
 
 const PREFIXES: [&str; 7] = ["0", "+", "-", " ", "x", "1", "\0"];

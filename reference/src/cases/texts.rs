@@ -1,6 +1,6 @@
 //! Texts for `sheet`: valid ones, refused ones, malformed ones, and junk.
 
-use crate::cases::{damage_picture, picture, sheet, spoil, step, style};
+use crate::cases::{curves, damage_picture, picture, sheet, spoil, step, style};
 use crate::line::LONGEST_TEXT_SIDE;
 use crate::print::{self, Style};
 use crate::random::Random;
@@ -114,11 +114,15 @@ pub fn text(random: &mut Random) -> Vec<u8> {
             mutate(random, &mut text);
             text
         }
-        24..=29 => {
+        24..=28 => {
             let word = random.pick(&KINDS).0;
             let line = [line_of(random, word), random.pick(&spoil::ENDINGS[..3]).into()].concat();
             let changed = spoil::every_field(&line);
             one_step(&changed[random.below(changed.len())])
+        }
+        29 => {
+            let listed: Vec<Vec<u8>> = curves::lines().collect();
+            one_step(&listed[random.below(listed.len())])
         }
         30 => {
             let mut text = EXAMPLE.into();
@@ -130,7 +134,7 @@ pub fn text(random: &mut Random) -> Vec<u8> {
 }
 
 /// Texts that need little chance: the example with every field and line changed in every way, the ends of every limit,
-/// each kind with every ending, and with its fields changed in a third of the ways.
+/// each kind with every ending, and with its fields changed in a third of the ways; the listed curves.
 pub fn listed(random: &mut Random) -> Vec<Vec<u8>> {
     let mut all: Vec<Vec<u8>> =
         vec![EXAMPLE.into(), Vec::new(), b"\n".to_vec(), b"canvas".to_vec(), b"canvas\t0\t0\n".to_vec()];
@@ -149,6 +153,7 @@ pub fn listed(random: &mut Random) -> Vec<Vec<u8>> {
     let (steps, source) = (sheet(random, MOST_STEPS, side, side, false), picture(random, side * side));
     all.push(written(side, side, &steps, &source, Style::default()));
     all.extend(endings(random));
+    all.extend(curves::lines().map(|line| one_step(&line)));
     let example = spoil::split(EXAMPLE.as_bytes());
     for at in 0..example.len() {
         for way in 0..spoil::LINE_WAYS {
@@ -187,7 +192,7 @@ pub fn many(random: &mut Random, count: usize) -> Vec<Vec<u8>> {
 /// A line for each number with how many of the answers have it, 0 for `ok`; then how many there are.
 pub fn by_number(answers: &[Vec<u8>]) -> String {
     let mut said = String::new();
-    for number in 0..16 {
+    for number in 0..17 {
         let begin = if number == 0 { "ok\n".to_string() } else { format!("refused\t{number}\t") };
         said +=
             &format!("{number}\t{}\n", answers.iter().filter(|answer| answer.starts_with(begin.as_bytes())).count());

@@ -24,12 +24,12 @@ enum-known-shape-2 : tie.Need-enum-known-shape-2
 enum-known-shape-2 c = search needs
 
 draw-map-requires : tie.Need-draw-map-requires
-unfolding reads Numbered
+unfolding reads Measured Numbered
 draw-map-requires c κs =
     let k = c .before .before in
     let s = k .before .before .before .before .before .before .before in
     let f = checked-known _ _ (k .shape2 .given .1) (s .args .context .n) (s .args .step .values) (s .pre .1 .0) (s .pre .1 .1 .shape) (s .pre .1 .1 .values) in
-    ((s .pre .0 .0, f .0 .0, f .2), s .pre .1 .2)
+    ((s .pre .0 .0, f .0 .0), (f .1, f .2, s .pre .1 .2))
 
 enum-known-shape-3 : tie.Need-enum-known-shape-3
 enum-known-shape-3 c = search needs

@@ -1,94 +1,126 @@
--- `draw_map::draw_map` meets its contract: the tables are prepared, and a rectangle on the canvas is no wider than a work row. An empty one
--- has no pixels. Assumes nothing.
-use Prim.Native.Nat.{_-_, _*_, _≤_}
-use mathlib.Core.Path.{sym, ap}
+-- `draw_map::draw_map` meets its contract: a kind is a method with what it takes of the values. Assumes nothing.
+use mathlib.Core.Path.{refl, ap}
 use native.Mathlib.Omega.{arith}
-use Rattle.window.specs.Limits.{longestRow}
-use Rattle.pixel.specs.declared.Pixel.{Pixel}
+use Rattle.pixel.specs.declared.Matrix as M
+use Rattle.pixel.specs.Matrix.{byMatrix}
+use Rattle.filter.specs.Kinds.{mapped}
+use Rattle.filter.proofs.AllowedCoefficients.{matrix-allowed}
 use Rattle.buffers.specs.Shown.{shown}
-use Rattle.buffers.proofs.DrawnRows.{drawn-none, drawn-new}
-use Rattle.buffers.proofs.LoadedRows.{prefix-long}
+use Rattle.buffers.proofs.DrawnRows.{drawn-new}
+use Rattle.draw_map.specs.Code.{byMethod, AllowedMethod}
 use borrow.Author.Needs.{needs}
 use Rattle.draw_map.proofs.draw_map.Statement.{statement}
 use Rattle.draw_map.proofs.draw_map.Tie as tie
 
-returns : tie.Need-returns
-returns c = drawn-none _ _ _ _ _ _ (λ x y i. absurd (omega (arith, c .if1 .taken, i .left, i .right)))
+enum-told : tie.Need-enum-told
+enum-told c = search needs
 
-slice-aggregate-prepare : tie.Need-slice-aggregate-prepare
-slice-aggregate-prepare c = search needs
+matrix-of-requires : tie.Need-matrix-of-requires
+matrix-of-requires c κs = search needs
 
-slice-aggregate-prepare-2 : tie.Need-slice-aggregate-prepare-2
-slice-aggregate-prepare-2 c = search needs
+draw-method-requires : tie.Need-draw-method-requires
+unfolding AllowedMethod
+draw-method-requires c κs =
+    let s = c .before .before .before .before .before .before .before in
+    let R = rw (c .before .before .enum-told .given .1) at (s .pre .1 .1) in
+    ((s .pre .0 .0, s .pre .0 .1, rw (c .before .matrix-of .ensures) (matrix-allowed _ R)), s .pre .1 .2)
 
-slice-aggregate-prepare-3 : tie.Need-slice-aggregate-prepare-3
-slice-aggregate-prepare-3 c = search needs
+enum-told-2 : tie.Need-enum-told-2
+enum-told-2 c = search needs
 
-prepare-requires : tie.Need-prepare-requires
-prepare-requires c κs = search needs
+saturate-of-requires : tie.Need-saturate-of-requires
+saturate-of-requires c κs =
+    let s = c .before .before .before .before .before in
+    let R = rw (c .enum-told2 .given .1) at (s .pre .1 .1) in
+    omega (arith, R .above 0 (omega arith))
 
-sub-k : tie.Need-sub-k
-sub-k c = search needs
+draw-method-requires-2 : tie.Need-draw-method-requires-2
+unfolding AllowedMethod
+draw-method-requires-2 c κs =
+    let s = c .before .before .before .before .before .before .before in
+    ((s .pre .0 .0, s .pre .0 .1, c .before .saturate-of .ensures .1), s .pre .1 .2)
 
-mul-k : tie.Need-mul-k
-mul-k c = search needs
+enum-told-3 : tie.Need-enum-told-3
+enum-told-3 c = search needs
 
-slice-aggregate-paint-rows : tie.Need-slice-aggregate-paint-rows
-slice-aggregate-paint-rows c = search needs
+draw-method-requires-3 : tie.Need-draw-method-requires-3
+unfolding AllowedMethod
+draw-method-requires-3 c κs =
+    let s = c .before .before .before .before .before .before in
+    ((s .pre .0 .0, s .pre .0 .1, tt), s .pre .1 .2)
 
-slice-aggregate-paint-rows-2 : tie.Need-slice-aggregate-paint-rows-2
-slice-aggregate-paint-rows-2 c = search needs
+enum-known-map : tie.Need-enum-known-map
+enum-known-map c = search needs
 
-slice-aggregate-paint-rows-3 : tie.Need-slice-aggregate-paint-rows-3
-slice-aggregate-paint-rows-3 c = search needs
-
-array-borrow-prefix-a : tie.Need-array-borrow-prefix-a
-array-borrow-prefix-a c = search needs
-
-slice-aggregate-paint-rows-4 : tie.Need-slice-aggregate-paint-rows-4
-slice-aggregate-paint-rows-4 c =
-    let s = c .before .before .before .before .before .before .before .before .before .before .before .before .before .before .before .before .before .before in
-    let a = s .args in
-    let few : 4 * (a .rect .right - a .rect .left) ≤ longestRow = omega (arith, s .pre .1 .right, s .pre .0 .0 .readable .sized .wide) in
-    prefix-long _ few
-
-paint-rows-requires : tie.Need-paint-rows-requires
-paint-rows-requires c κs =
-    let prepare-at = c .before .before .before .before .before .before .before .before .before in
-    let if1-at = prepare-at .before .before .before .before in
-    let s = if1-at .before .before .before .before .before in
-    let a = s .args in
-    let few : 4 * (a .rect .right - a .rect .left) ≤ longestRow = omega (arith, s .pre .1 .right, s .pre .0 .0 .readable .sized .wide) in
-    ((s .pre .0 .0, s .pre .0 .1), ((s .pre .1, omega (arith, if1-at .if1 .left)), (prepare-at .prepare .ensures .1, sym (prefix-long _ few))))
+draw-curve-requires : tie.Need-draw-curve-requires
+draw-curve-requires c κs =
+    let s = c .before .before .before .before .before .before .before in
+    let told = c .before .before .map .given .1 in
+    (s .pre .0, (rw told at (s .pre .1 .0), rw told at (s .pre .1 .1), s .pre .1 .2))
 
 same-length : tie.Need-same-length
 same-length c = search needs
 
-returns-2 : tie.Need-returns-2
-returns-2 c =
-    let paint-rows-at = c .before .before .before in
-    let prepare-at = paint-rows-at .before .before .before .before .before .before .before .before .before .before in
-    let s = prepare-at .before .before .before .before .before .before .before .before .before in
+returns : tie.Need-returns
+unfolding byMethod mapped
+returns c =
+    let s = c .before .before .before .before .before .before .before .before .before .before in
     let a = s .args in
     let p = shown (a .context) (a .source .now) (a .workspace .now) (a .input) in
-    drawn-new _ _ _ _ _ _ _ _ (λ x y i. ap (λ (f : Pixel → Pixel). f (p x y)) (prepare-at .prepare .ensures .0)) (paint-rows-at .paint-rows .ensures)
+    drawn-new _ _ _ _ _ _ _ _ (λ x y i. rw (c .before .before .before .before .before .enum-told .given .1) (ap (λ (m : M.Matrix). byMatrix m (p x y)) (c .before .before .before .before .matrix-of .ensures))) (c .before .before .draw-method .ensures)
+
+same-length-2 : tie.Need-same-length-2
+same-length-2 c = search needs
+
+returns-2 : tie.Need-returns-2
+unfolding byMethod mapped
+returns-2 c =
+    let s = c .before .before .before .before .before .before .before .before .before .before in
+    let a = s .args in
+    let p = shown (a .context) (a .source .now) (a .workspace .now) (a .input) in
+    drawn-new _ _ _ _ _ _ _ _ (λ x y i. rw (c .before .before .before .before .before .enum-told2 .given .1) (ap (λ (m : M.Matrix). byMatrix m (p x y)) (c .before .before .before .before .saturate-of .ensures .0))) (c .before .before .draw-method2 .ensures)
+
+same-length-3 : tie.Need-same-length-3
+same-length-3 c = search needs
+
+returns-3 : tie.Need-returns-3
+unfolding byMethod mapped
+returns-3 c =
+    let s = c .before .before .before .before .before .before .before .before .before in
+    let a = s .args in
+    let p = shown (a .context) (a .source .now) (a .workspace .now) (a .input) in
+    drawn-new _ _ _ _ _ _ _ _ (λ x y i. rw (c .before .before .before .before .enum-told3 .given .1) refl) (c .before .before .draw-method3 .ensures)
+
+same-length-4 : tie.Need-same-length-4
+same-length-4 c = search needs
+
+returns-4 : tie.Need-returns-4
+unfolding mapped
+returns-4 c =
+    let s = c .before .before .before .before .before .before .before .before .before .before in
+    let a = s .args in
+    let p = shown (a .context) (a .source .now) (a .workspace .now) (a .input) in
+    drawn-new _ _ _ _ _ _ _ _ (λ x y i. rw (c .before .before .before .before .before .map .given .1) refl) (c .before .before .draw-curve .ensures)
 
 pub draw-map-spec : {M : Type 1} → statement M
 draw-map-spec =
     tie.close
     (tie.spec
-    returns
-    slice-aggregate-prepare
-    slice-aggregate-prepare-2
-    slice-aggregate-prepare-3
-    prepare-requires
-    sub-k
-    mul-k
-    slice-aggregate-paint-rows
-    slice-aggregate-paint-rows-2
-    slice-aggregate-paint-rows-3
-    array-borrow-prefix-a
-    slice-aggregate-paint-rows-4
-    paint-rows-requires
+    enum-told
+    matrix-of-requires
+    draw-method-requires
+    enum-told-2
+    saturate-of-requires
+    draw-method-requires-2
+    enum-told-3
+    draw-method-requires-3
+    enum-known-map
+    draw-curve-requires
     same-length
-    returns-2)
+    returns
+    same-length-2
+    returns-2
+    same-length-3
+    returns-3
+    same-length-4
+    returns-4)

@@ -7,6 +7,7 @@ use Rattle.buffers.specs.Shown.{shown}
 use Rattle.buffers.proofs.LoadedRows.{loaded-pixel, loaded-valid, part-long, painted-into}
 use Rattle.buffers.proofs.Seen.{held}
 use Rattle.draw_map.specs.Code.{byMethod}
+use Rattle.buffers.proofs.ShownInputs.{drawable-valid}
 use borrow.Author.Needs.{needs}
 use Rattle.draw_map.proofs.paint.Statement.{statement}
 use Rattle.draw_map.proofs.paint.Tie as tie
@@ -55,7 +56,7 @@ map-row-requires c κs =
     let D = s .pre .0 .0 in
     let R = s .pre .0 .2 in
     let fits : start-at .start .result + 4 * (a .part .to - a .part .from) ≤ length (a .workspace .now) = omega (arith, start-at .start .ensures .1, D .readable .sized .workspace, R .order, R .wide) in
-    let valid = loaded-valid _ _ _ _ _ _ (seen .held) (D .valid .valid _ (s .pre .0 .1)) in (
+    let valid = loaded-valid _ _ _ _ _ _ (seen .held) (drawable-valid _ _ _ _ D .valid _ (s .pre .0 .1)) in (
       (s .pre .1 .0, valid),
       (omega (arith, R .wide, D .readable .sized .wide), seen .long, part-long (start-at .start .result) (a .part .to - a .part .from) (a .workspace .now) fits),
     )

@@ -7,6 +7,7 @@ use Rattle.buffers.specs.Shown.{shown}
 use Rattle.buffers.proofs.LoadedRows.{loaded-pixel, loaded-valid, part-long, painted-into}
 use Rattle.buffers.proofs.Seen.{held}
 use Rattle.draw_pair.specs.Code.{byMethod}
+use Rattle.buffers.proofs.ShownInputs.{drawable-valid}
 use borrow.Author.Needs.{needs}
 use Rattle.draw_pair.proofs.paint.Statement.{statement}
 use Rattle.draw_pair.proofs.paint.Tie as tie
@@ -74,8 +75,8 @@ pair-row-requires c κs =
     let D = s .pre .0 .0 in
     let R = s .pre .1 .0 .2 in
     let fits : start-at .start .result + 4 * (a .part .to - a .part .from) ≤ length (a .workspace .now) = omega (arith, start-at .start .ensures .1, D .readable .sized .workspace, R .order, R .wide) in
-    let va = loaded-valid _ _ _ _ _ _ (first .held) (D .valid .valid _ (s .pre .1 .0 .0)) in
-    let vb = loaded-valid _ _ _ _ _ _ (second .held) (D .valid .valid _ (s .pre .1 .0 .1)) in
+    let va = loaded-valid _ _ _ _ _ _ (first .held) (drawable-valid _ _ _ _ D .valid _ (s .pre .1 .0 .0)) in
+    let vb = loaded-valid _ _ _ _ _ _ (second .held) (drawable-valid _ _ _ _ D .valid _ (s .pre .1 .0 .1)) in
     let ld = part-long (start-at .start .result) (a .part .to - a .part .from) (a .workspace .now) fits in
     ((s .pre .0 .1, va, vb), (first .long, second .long, s .pre .1 .1 .1 .0, s .pre .1 .1 .1 .1, ld))
 

@@ -1,5 +1,5 @@
--- `checks::checks::check_step` meets its contract: check 7, then the first refusal of the others. Assumes nothing.
-use Rattle.checks.proofs.AnswerLaws.{step-refused, step-is}
+-- `checks::checks::check_step` meets its contract: check 7, then 16, then the first refusal of the others. Assumes nothing.
+use Rattle.checks.proofs.AnswerLaws.{step-refused, step-oversized, step-is}
 use borrow.Author.Tests.{not-true, not-false}
 use mathlib.Core.Path.{sym, _∙_}
 use borrow.Author.Needs.{needs}
@@ -12,6 +12,15 @@ inputs-allowed-requires c κs = search needs
 returns : tie.Need-returns
 returns c = step-refused _ _ _ _ (sym (c .before .inputs-allowed .ensures) ∙ not-true _ (c .if1 .taken))
 
+tables-allowed-requires : tie.Need-tables-allowed-requires
+tables-allowed-requires c κs = search needs
+
+returns-2 : tie.Need-returns-2
+returns-2 c =
+    let e = c .before .before in
+    step-oversized _ _ _ _ (sym (e .before .inputs-allowed .ensures) ∙ not-false _ (e .if1 .left))
+    (sym (c .before .tables-allowed .ensures) ∙ not-true _ (c .if2 .taken))
+
 check-numbers-requires : tie.Need-check-numbers-requires
 check-numbers-requires c κs = search needs
 
@@ -21,10 +30,12 @@ check-region-requires c κs = search needs
 first-requires : tie.Need-first-requires
 first-requires c κs = search needs
 
-returns-2 : tie.Need-returns-2
-returns-2 c =
-    let e = c .before .before .before in
+returns-3 : tie.Need-returns-3
+returns-3 c =
+    let t = c .before .before .before in
+    let e = t .before .before in
     step-is _ _ _ _ _ (sym (e .before .inputs-allowed .ensures) ∙ not-false _ (e .if1 .left))
+    (sym (t .before .tables-allowed .ensures) ∙ not-false _ (t .if2 .left))
     (rw (c .first .ensures, c .before .check-region .ensures, c .before .before .check-numbers .ensures))
 
 pub check-step-spec : {M : Type 1} → statement M
@@ -33,7 +44,9 @@ check-step-spec =
     (tie.spec
     inputs-allowed-requires
     returns
+    tables-allowed-requires
+    returns-2
     check-numbers-requires
     check-region-requires
     first-requires
-    returns-2)
+    returns-3)

@@ -2,6 +2,7 @@
 use mathlib.Core.Path.{ap}
 use Prim.Native.Nat.{_*_}
 use native.Mathlib.Omega.{arith}
+use Rattle.buffers.proofs.ShownInputs.{drawable-valid}
 use Rattle.pixel.specs.declared.Pixel.{Pixel}
 use Rattle.pixel.specs.declared.Operator.the-variants.{Over}
 use Rattle.pixel.specs.Bytes.{pixelAt}
@@ -38,7 +39,7 @@ over-onto-requires c κs =
     let s = c .before .before .before .before .before .before .before .before .before .before .before .before .before .before .before in
     let D = s .pre .0 in
     let R = s .pre .1 .0 in
-    let v = loaded-valid _ _ _ _ _ _ (seen .held) (D .0 .valid .valid _ (D .1)) in
+    let v = loaded-valid _ _ _ _ _ _ (seen .held) (drawable-valid _ _ _ _ (D .0) .valid _ (D .1)) in
     ((seen .long, R .1, R .2), (v, s .pre .1 .1))
 
 same-length : tie.Need-same-length
@@ -58,7 +59,7 @@ returns c =
     let a = s .args in
     let D = s .pre .0 in
     let q = shown (a .context) (a .source .now) (a .workspace .now) (a .i) in
-    let v = loaded-valid _ _ _ _ _ _ (seen .held) (D .0 .valid .valid _ (D .1)) in (
+    let v = loaded-valid _ _ _ _ _ _ (seen .held) (drawable-valid _ _ _ _ (D .0) .valid _ (D .1)) in (
       painted-as _ _ _ _ _ _ _
           (λ x l h. ap (λ (p : Pixel). composited Over p (pixelAt (a .under .now) (4 * x))) (loaded-pixel q (a .part .y) (a .part .from) (a .part .to) _ _ (seen .held) x h))
           (over-onto-at .over-onto .ensures .0),

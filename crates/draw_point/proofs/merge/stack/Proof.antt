@@ -2,6 +2,7 @@
 use Prim.Native.Nat.{_-_, _≤_, _<_, max}
 use mathlib.Core.Path.{_≡_, sym, _∙_}
 use native.Mathlib.Omega.{arith}
+use Rattle.buffers.proofs.ShownInputs.{drawable-valid}
 use borrow.Author.Needs.{needs}
 use Rattle.pixel.specs.Bytes.{ValidRow}
 use Rattle.filter.specs.Kinds.{reads}
@@ -41,7 +42,7 @@ loop-holds c =
       omega arith,
       omega arith,
       loaded-stays (E (a .inputs .first)) (a .part .y) (a .part .from) (a .part .to) _ _ (load-first-at .load-first .ensures) (stackOf E (a .inputs) 1) (λ x. stacked-first E (a .inputs) x (a .part .y)),
-      loaded-valid (E (a .inputs .first)) (a .part .y) (a .part .from) (a .part .to) _ _ (load-first-at .load-first .ensures) (D .drawable .valid .valid _ ok),
+      loaded-valid (E (a .inputs .first)) (a .part .y) (a .part .from) (a .part .to) _ _ (load-first-at .load-first .ensures) (drawable-valid _ _ _ _ (D .drawable) .valid _ ok),
       s .pre .1 .0,
       s .pre .1 .1,
     )

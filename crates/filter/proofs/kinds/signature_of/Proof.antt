@@ -24,6 +24,9 @@ pass-numbers-requires c κs = search needs
 enum-known-kind-2 : tie.Need-enum-known-kind-2
 enum-known-kind-2 c = search needs
 
+map-tables-requires : tie.Need-map-tables-requires
+map-tables-requires c κs = search needs
+
 map-numbers-requires : tie.Need-map-numbers-requires
 map-numbers-requires c κs = search needs
 
@@ -49,7 +52,7 @@ returns-3 : tie.Need-returns-3
 returns-3 c = rw (c .before .before .kind .given .1, c .pass-numbers .ensures)
 
 returns-4 : tie.Need-returns-4
-returns-4 c = rw (c .before .before .kind2 .given .1, c .map-numbers .ensures)
+returns-4 c = rw (c .before .before .before .kind2 .given .1, c .before .map-tables .ensures, c .map-numbers .ensures)
 
 returns-5 : tie.Need-returns-5
 returns-5 c = rw (c .before .before .kind3 .given .1, c .pair-numbers .ensures)
@@ -68,6 +71,7 @@ signature-of-spec =
     enum-known-kind
     pass-numbers-requires
     enum-known-kind-2
+    map-tables-requires
     map-numbers-requires
     enum-known-kind-3
     pair-numbers-requires

@@ -1,5 +1,4 @@
 -- `layers::steps::redraw_step` meets its contract: its rectangle is drawn. Assumes nothing.
-use Rattle.buffers.proofs.ShownInputs.{shown-valid}
 use Rattle.layers.proofs.StepReplacesLayer.{redraw-replaces}
 use borrow.Author.Needs.{needs}
 use Rattle.layers.proofs.steps.redraw_step.Statement.{statement}
@@ -10,7 +9,7 @@ draw-requires c κs =
     let s = c .before .before .before .before .before in
     let a = s .args in
     let R = s .pre .0 in
-    ((R .sized, R .scratch), ((shown-valid (a .context) (a .source .now) _ (R .inputs), R .earlier, R .bounded), s .pre .1 .within))
+    ((R .sized, R .scratch), ((R .inputs, R .earlier, R .bounded), s .pre .1 .within))
 
 same-length : tie.Need-same-length
 same-length c = search needs

@@ -1,6 +1,5 @@
 -- `layers::steps::render_step` meets its contract: the layer is cleared around the region, and the region drawn. Assumes nothing.
 use Rattle.buffers.proofs.DrawnAgrees.{valid-agree}
-use Rattle.buffers.proofs.ShownInputs.{shown-valid}
 use Rattle.layers.proofs.StepReplacesLayer.{sized-same, cleared-agree, render-replaces}
 use borrow.Author.Needs.{needs}
 use Rattle.layers.proofs.steps.render_step.Statement.{statement}
@@ -18,7 +17,7 @@ draw-requires c κs =
     let C = l .clear-around .ensures in (
       (sized-same _ _ _ _ _ _ (C .long) (R .sized), R .scratch),
       (
-        (shown-valid (a .context) (a .source .now) _ (valid-agree (a .context .n) _ _ (cleared-agree _ _ _ _ _ _ C (a .source .now)) (R .inputs)), R .earlier, R .bounded),
+        (valid-agree (a .context .n) _ _ (cleared-agree _ _ _ _ _ _ C (a .source .now)) (R .inputs), R .earlier, R .bounded),
         R .region,
       ),
     )

@@ -8,11 +8,8 @@ use Rattle.text_step.proofs.kinds.is_sound.Tie as tie
 both-requires : tie.Need-both-requires
 both-requires c κs = search needs
 
-number-count-requires : tie.Need-number-count-requires
-number-count-requires c κs = search needs
-
-bytes-given-requires : tie.Need-bytes-given-requires
-bytes-given-requires c κs = search needs
+details-given-requires : tie.Need-details-given-requires
+details-given-requires c κs = search needs
 
 both-requires-2 : tie.Need-both-requires-2
 both-requires-2 c κs = search needs
@@ -22,17 +19,11 @@ both-requires-3 c κs = search needs
 
 returns : tie.Need-returns
 returns c =
-    let p = c .before .before .before .before in
+    let p = c .before .before .before in
     let s = p .before .before .before .before in
-    sound-is (s .args .kind) (split 9 (s .args .line .now)) (s .pre) (p .both .ensures) (c .before .before .before .number-count .ensures) (c .before .before .bytes-given .ensures) (c .before .both2 .ensures) (c .both3 .ensures)
+    sound-is (s .args .kind) (split 9 (s .args .line .now)) (s .pre) (p .both .ensures) (c .before .before .details-given .ensures) (c .before .both2 .ensures) (c .both3 .ensures)
 
 pub is-sound-spec : {M : Type 1} → statement M
 is-sound-spec =
     tie.close
-    (tie.spec
-    both-requires
-    number-count-requires
-    bytes-given-requires
-    both-requires-2
-    both-requires-3
-    returns)
+    (tie.spec both-requires details-given-requires both-requires-2 both-requires-3 returns)

@@ -1,9 +1,12 @@
--- `text_step::step_lines::step_as` meets its contract. A sound kind has few inputs and numbers, so that the count of fields fits. Assumes nothing.
-use mathlib.Core.Path.{refl, sym, _∙_}
+-- `text_step::step_lines::step_as` meets its contract. A sound kind has few inputs, and no kind many numbers, so that the count of fields fits. Assumes nothing.
+use mathlib.Core.Path.{ap, _∙_}
 use borrow.Author.Tests.{not-true, not-false}
 use native.Mathlib.Omega.{arith}
-use Rattle.text_step.proofs.SpaceField.{closed-long}
-use Rattle.text_step.proofs.StepLineParts.{few-fields, as-unsound, as-open, as-good}
+use Rattle.filter.specs.declared.Signature.{Signature}
+use Rattle.filter.specs.Signature.{numberCount}
+use Rattle.filter.proofs.CurveNumbers.{numbers-few}
+use Rattle.text_step.proofs.Placed.{few-bytes}
+use Rattle.text_step.proofs.StepLineParts.{few-inputs, needed, as-unsound, as-open, as-good}
 use borrow.Author.Needs.{needs}
 use Rattle.text_step.proofs.step_lines.step_as.Statement.{statement}
 use Rattle.text_step.proofs.step_lines.step_as.Tie as tie
@@ -23,33 +26,19 @@ returns c = as-unsound _ _ (c .before .before .is-sound .ensures) (not-true _ (c
 number-count-requires : tie.Need-number-count-requires
 number-count-requires c κs = search needs
 
-add-fields : tie.Need-add-fields
-add-fields c =
-    let f = few-fields (c .before .before .before .before .before .args .kind) _ (c .before .before .before .signature-of .ensures) (c .before .before .is-sound .ensures) (not-false _ (c .before .if1 .left)) (c .number-count .ensures) in
-    omega (arith, f .2)
-
-add-fields-2 : tie.Need-add-fields-2
-add-fields-2 c =
-    let f = few-fields (c .before .before .before .before .before .args .kind) _ (c .before .before .before .signature-of .ensures) (c .before .before .is-sound .ensures) (not-false _ (c .before .if1 .left)) (c .number-count .ensures) in
-    omega (arith, f .2)
-
-add-fields-3 : tie.Need-add-fields-3
-add-fields-3 c =
-    let f = few-fields (c .before .before .before .before .before .args .kind) _ (c .before .before .before .signature-of .ensures) (c .before .before .is-sound .ensures) (not-false _ (c .before .if1 .left)) (c .number-count .ensures) in
-    omega (arith, f .2)
+number-field-requires : tie.Need-number-field-requires
+number-field-requires c κs =
+    let e = c .number-count .ensures ∙ ap (λ (r : Signature). numberCount (r .numbers)) (c .before .before .before .signature-of .ensures) in
+    (c .before .before .before .signature-of .ensures, few-inputs (c .before .before .before .before .before .args .kind) _ (c .before .before .before .signature-of .ensures) (c .before .before .is-sound .ensures) (not-false _ (c .before .if1 .left)), omega (arith, e, numbers-few (c .before .before .before .before .before .args .kind)))
 
 is-closed-requires : tie.Need-is-closed-requires
-is-closed-requires c κs =
-    let f = few-fields (c .before .before .before .before .before .args .kind) _ (c .before .before .before .signature-of .ensures) (c .before .before .is-sound .ensures) (not-false _ (c .before .if1 .left)) (c .number-count .ensures) in
-    (c .before .before .before .before .before .pre, f .2)
+is-closed-requires c κs = (c .before .before .before .before .before .before .pre, c .number-field .ensures .1)
 
 no-step-requires-2 : tie.Need-no-step-requires-2
 no-step-requires-2 c κs = search needs
 
 returns-2 : tie.Need-returns-2
-returns-2 c =
-    let p = c .before .before .before in
-    as-open _ _ (p .before .before .is-sound .ensures) (p .before .before .before .signature-of .ensures) (p .number-count .ensures) refl (c .before .before .is-closed .ensures) (not-true _ (c .before .if2 .taken)) (c .no-step2 .ensures)
+returns-2 c = as-open _ _ (c .before .before .before .before .before .before .is-sound .ensures) (needed (c .before .before .before .before .before .before .before .before .before .args .kind) (c .before .before .before .before .before .before .before .signature-of .ensures) (c .before .before .before .before .number-count .ensures) (c .before .before .before .number-field .ensures .0)) (c .before .before .is-closed .ensures) (not-true _ (c .before .if2 .taken)) (c .no-step2 .ensures)
 
 region-given-requires : tie.Need-region-given-requires
 region-given-requires c κs = search needs
@@ -58,36 +47,13 @@ region-of-requires : tie.Need-region-of-requires
 region-of-requires c κs = search needs
 
 add-step-inputs : tie.Need-add-step-inputs
-add-step-inputs c =
-    let p = c .before .before .before .before in
-    let f = few-fields (p .before .before .before .before .before .args .kind) _ (p .before .before .before .signature-of .ensures) (p .before .before .is-sound .ensures) (not-false _ (p .before .if1 .left)) (p .number-count .ensures) in
-    omega (arith, f .2)
+add-step-inputs c = omega (arith, few-bytes (c .before .before .before .before .before .before .before .before .before .before .before .args .kind) (c .before .before .before .before .before .before .before .before .before .signature-of .ensures))
 
 step-inputs-requires : tie.Need-step-inputs-requires
-step-inputs-requires c κs =
-    let p = c .before .before .before .before in
-    let f = few-fields (p .before .before .before .before .before .args .kind) _ (p .before .before .before .signature-of .ensures) (p .before .before .is-sound .ensures) (not-false _ (p .before .if1 .left)) (p .number-count .ensures) in
-    let l = closed-long _ _ (sym (c .before .before .before .is-closed .ensures) ∙ not-false _ (c .before .before .if2 .left)) in
-    (f .0, omega (arith, l))
-
-add-step-numbers : tie.Need-add-step-numbers
-add-step-numbers c =
-    let p = c .before .before .before .before .before in
-    let f = few-fields (p .before .before .before .before .before .args .kind) _ (p .before .before .before .signature-of .ensures) (p .before .before .is-sound .ensures) (not-false _ (p .before .if1 .left)) (p .number-count .ensures) in
-    omega (arith, f .2)
-
-add-step-numbers-2 : tie.Need-add-step-numbers-2
-add-step-numbers-2 c =
-    let p = c .before .before .before .before .before in
-    let f = few-fields (p .before .before .before .before .before .args .kind) _ (p .before .before .before .signature-of .ensures) (p .before .before .is-sound .ensures) (not-false _ (p .before .if1 .left)) (p .number-count .ensures) in
-    omega (arith, f .2)
+step-inputs-requires c κs = (omega (arith, few-bytes (c .before .before .before .before .before .before .before .before .before .before .before .args .kind) (c .before .before .before .before .before .before .before .before .before .signature-of .ensures)), few-inputs (c .before .before .before .before .before .before .before .before .before .before .before .args .kind) _ (c .before .before .before .before .before .before .before .before .before .signature-of .ensures) (c .before .before .before .before .before .before .before .before .is-sound .ensures) (not-false _ (c .before .before .before .before .before .before .before .if1 .left)))
 
 step-numbers-requires : tie.Need-step-numbers-requires
-step-numbers-requires c κs =
-    let p = c .before .before .before .before .before in
-    let f = few-fields (p .before .before .before .before .before .args .kind) _ (p .before .before .before .signature-of .ensures) (p .before .before .is-sound .ensures) (not-false _ (p .before .if1 .left)) (p .number-count .ensures) in
-    let l = closed-long _ _ (sym (c .before .before .before .before .is-closed .ensures) ∙ not-false _ (c .before .before .before .if2 .left)) in
-    (f .1, l)
+step-numbers-requires c κs = (c .before .before .before .before .before .before .before .before .before .before .signature-of .ensures, few-inputs (c .before .before .before .before .before .before .before .before .before .before .before .before .args .kind) _ (c .before .before .before .before .before .before .before .before .before .before .signature-of .ensures) (c .before .before .before .before .before .before .before .before .before .is-sound .ensures) (not-false _ (c .before .before .before .before .before .before .before .before .if1 .left)), c .before .before .before .before .before .before .before .number-count .ensures ∙ ap (λ (r : Signature). numberCount (r .numbers)) (c .before .before .before .before .before .before .before .before .before .before .signature-of .ensures))
 
 space-at-requires : tie.Need-space-at-requires
 space-at-requires c κs = search needs
@@ -97,9 +63,9 @@ assemble-requires c κs = search needs
 
 returns-3 : tie.Need-returns-3
 returns-3 c =
-    let p = c .before .before .before .before .before .before .before .before in
-    as-good _ _ (p .before .before .is-sound .ensures) (p .before .before .before .signature-of .ensures) (p .number-count .ensures) refl (c .before .before .before .before .before .before .before .is-closed .ensures)
-    (not-false _ (p .before .if1 .left)) (not-false _ (c .before .before .before .before .before .before .if2 .left)) (c .before .before .before .before .before .region-given .ensures) (c .before .before .before .before .region-of .ensures)
+    let p = c .before .before .before .before .before .before .before .before .before in
+    as-good _ _ (p .before .before .before .is-sound .ensures) (needed (p .before .before .before .before .before .before .args .kind) (p .before .before .before .before .signature-of .ensures) (p .before .number-count .ensures) (p .number-field .ensures .0)) (c .before .before .before .before .before .before .before .before .is-closed .ensures)
+    (not-false _ (p .before .before .if1 .left)) (not-false _ (c .before .before .before .before .before .before .before .if2 .left)) (p .before .before .before .before .signature-of .ensures) (c .before .before .before .before .before .before .region-given .ensures) (c .before .before .before .before .before .region-of .ensures)
     (c .before .before .before .step-inputs .ensures) (c .before .before .step-numbers .ensures) (c .before .space-at .ensures) (c .assemble .ensures)
 
 pub step-as-spec : {M : Type 1} → statement M
@@ -111,9 +77,7 @@ step-as-spec =
     no-step-requires
     returns
     number-count-requires
-    add-fields
-    add-fields-2
-    add-fields-3
+    number-field-requires
     is-closed-requires
     no-step-requires-2
     returns-2
@@ -121,8 +85,6 @@ step-as-spec =
     region-of-requires
     add-step-inputs
     step-inputs-requires
-    add-step-numbers
-    add-step-numbers-2
     step-numbers-requires
     space-at-requires
     assemble-requires

@@ -1,12 +1,13 @@
 -- `text_step::step_lines::step_inputs` meets its contract. The loop keeps what the fields so far say, in an array. Assumes nothing.
 use mathlib.Core.Path.{_≡_, refl, sym, ap, _∙_}
-use Prim.Native.Nat.{_-_}
-use lib.ListN.{length, take, drop, length-set}
+use mathlib.Core.List.{[]}
+use Prim.Native.Nat.{_+_, _-_}
+use lib.ListN.{length, getD, length-set}
 use Rattle.filter.specs.Steps.{noInput}
 use Rattle.text_field.specs.Split.{split}
 use Rattle.text_step.specs.StepLine.{inputOf}
-use Rattle.text_field.proofs.SplitByIndex.{split-le}
 use Rattle.text_step.specs.ManyFields.{padded}
+use Rattle.text_step.specs.Layout.{fieldsFrom}
 use Rattle.text_step.specs.StepLine.{input?, stepInputOf, found?, stepInputTo}
 use Rattle.text_step.proofs.FieldsGathered.{FieldsGathered, fields-gathered-none, fields-gathered-bad, fields-gathered-all, padded-none, array-more, field-of, fields-long}
 use Rattle.text_step.proofs.StepLineParts.{step-inputs-bad, step-inputs-end}
@@ -16,17 +17,17 @@ use Rattle.text_step.proofs.step_lines.step_inputs.Statement.{statement
 use Rattle.text_step.proofs.step_lines.step_inputs.Tie as tie
 
 abbrev Inv-loop : tie.InvT-loop
-Inv-loop line at n source inputs₀ i₀ inputs i = (source ≡ noInput) × FieldsGathered input? stepInputOf (padded 4 noInput) (take n (drop at (split 9 line))) n i inputs × (length inputs ≡ 4)
+Inv-loop line at n source inputs₀ i₀ inputs i = (source ≡ noInput) × FieldsGathered input? stepInputOf (padded 4 noInput) (fieldsFrom at n (split 9 line)) n i inputs × (length inputs ≡ 4)
 
 abbrev μ-loop : tie.MeasureT-loop
 μ-loop line at n source inputs₀ i₀ inputs i = n - i
 
 loop-holds : tie.Need-loop-holds Inv-loop μ-loop
 loop-holds c =
-    (refl, fields-gathered-none input? stepInputOf (padded 4 noInput) _ _ (fields-long (split 9 (c .before .args .line .now)) (c .before .args .at) (c .before .args .n) (search needs)) (padded-none 4 noInput), refl)
+    (refl, fields-gathered-none input? stepInputOf (padded 4 noInput) _ _ (fields-long (λ j. getD (split 9 (c .before .args .line .now)) (c .before .args .at + j) []) 0 (c .before .args .n)) (padded-none 4 noInput), refl)
 
 add-field : tie.Need-add-field Inv-loop μ-loop
-add-field c = omega (arith, split-le 9 (c .before .before .before .args .line .now))
+add-field c = search needs
 
 field-requires : tie.Need-field-requires Inv-loop μ-loop
 field-requires c κs = search needs
@@ -49,7 +50,7 @@ enum-told c = search needs
 returns : tie.Need-returns Inv-loop μ-loop
 returns c =
     let b = c .before .before .before .before .before in
-    let e = field-of (split 9 (b .before .before .args .line .now)) (b .before .before .args .at) (b .before .before .args .n) (b .loop .i) (search needs) in
+    let e = field-of (λ j. getD (split 9 (b .before .before .args .line .now)) (b .before .before .args .at + j) []) (b .before .before .args .n) (b .loop .i) (search needs) in
     let q = sym (ap inputOf (c .before .before .before .field .ensures)) ∙ sym (c .before .before .input-of .ensures) ∙ c .enum-told .given .1 in
     step-inputs-bad _ (fields-gathered-bad input? stepInputOf (padded 4 noInput) _ _ _ _ (b .loop .inv .1) (search needs) (ap input? e ∙ ap found? q))
 
@@ -62,7 +63,7 @@ loop-less c = search needs
 loop-again : tie.Need-loop-again Inv-loop μ-loop
 loop-again c =
     let b = c .before .before .before .before .before .before in
-    let e = field-of (split 9 (b .before .before .args .line .now)) (b .before .before .args .at) (b .before .before .args .n) (b .loop .i) (search needs) in
+    let e = field-of (λ j. getD (split 9 (b .before .before .args .line .now)) (b .before .before .args .at + j) []) (b .before .before .args .n) (b .loop .i) (search needs) in
     let q = sym (ap inputOf (c .before .before .before .before .field .ensures)) ∙ sym (c .before .before .before .input-of .ensures) ∙ c .before .x .given .1 in
     (refl, array-more input? stepInputOf 4 noInput _ _ _ _ _ (b .loop .inv .1) (search needs) (search needs) (ap input? e ∙ ap found? q) (ap stepInputOf e ∙ ap stepInputTo q), simp length-set (b .loop .inv .2))
 

@@ -1,0 +1,3 @@
+-- What drawing a curve leaves.
+pub mod Curve
+pub mod Code

@@ -1,0 +1,2 @@
+-- Laws that the proofs of the kernel cite.
+pub mod Channels

@@ -1,0 +1,3 @@
+-- Component transfer: the map of one channel.
+pub mod Channel
+pub mod Code
