@@ -1,13 +1,14 @@
 // Rows converted and remapped without a table, which costs more to make than it saves where there are few pixels.
 use super::table::place;
-use super::table::unpremultiply;
 use pixel::Pixel;
 use pixel::Space;
 use pixel::alpha::premultiply;
 use pixel::bytes;
 use pixel::convert::convert_pair;
 ghost use mathlib.Core.Path.{_≡_};
+ghost use mathlib.Core.Bool.{cond};
 ghost use Prim.Native.Nat.{_+_, _*_, _≤_};
+ghost use lib.Dec.{eqb};
 ghost use lib.ListN.{length, getD};
 ghost use Rattle.pixel.specs.Alpha.{Valid, premultiplied, unpremultiplied};
 ghost use Rattle.pixel.specs.Bytes.{pixelAt, Painted, ValidRow};
@@ -40,6 +41,23 @@ pub fn convert_few(to: Space, row: &mut [u8], count: usize)
         let v = convert_at(to, &row[..], 4 * x);
         bytes::put(row, 4 * x, v);
     }
+}
+
+fn divisor(a: u32) -> u32
+    ensures { λ r. ⌜ r ≡ cond (eqb a 0) 1 a ⌝ }
+{
+    if a == 0 {
+        return 1;
+    }
+    a
+}
+
+// The colour c at the alpha a, unpremultiplied; at the alpha 0, where c is 0, a division by 1 gives 0 with no branch of its own.
+fn unpremultiply(c: u8, a: u8) -> u8
+    requires { ⌜ c ≤ a ⌝ }
+    ensures { λ r. ⌜ r ≡ unpremultiplied c a ⌝ }
+{
+    ((255 * (c as u32) + (a as u32) / 2) / divisor(a as u32)) as u8
 }
 
 // The colour c of the alpha a, by the map that starts at m, premultiplied by the new alpha b.

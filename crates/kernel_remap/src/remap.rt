@@ -2,6 +2,7 @@
 // is then worked by look-ups, with no branch on what a pixel holds, since pictures may be private.
 use super::table::fill_line;
 use super::table::fill_unpremultiplied;
+use kernel_alpha::unpremultiply::prepare;
 use pixel::Pixel;
 use pixel::Space;
 use pixel::bytes;
@@ -30,9 +31,11 @@ pub fn prepare_maps(to: Space, inner: &[u8], maps: &[u8], tables: &mut [u8])
     requires { ⌜ Inner to (now inner) × (length (now maps) ≡ 1024) × (length (now tables) ≡ 196608) ⌝ }
     ensures { λ _. ⌜ Remaps to (now (inner .entry)) (now (maps .entry)) (now (tables .exit)) ⌝ }
 {
+    let mut inverse = [0u32; 512];
+    prepare(&mut inverse);
     let mut line = [0u8; 256];
     for a in 0usize..256 {
-        fill_unpremultiplied(to, inner, a, &mut line);
+        fill_unpremultiplied(to, inner, &inverse, a, &mut line);
         fill_tables(maps, &line, tables, a);
     }
 }

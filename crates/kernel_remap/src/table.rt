@@ -1,13 +1,13 @@
 // Tables of byte pairs: for every colour at every alpha what a map of bytes makes of it. They are filled line by line, a line for each alpha.
+use kernel_alpha::unpremultiply::prepare;
+use kernel_alpha::unpremultiply::unpremultiply;
 use pixel::Space;
 use pixel::alpha::premultiply;
 use pixel::convert::convert_pair;
 ghost use mathlib.Core.Path.{_≡_};
-ghost use mathlib.Core.Bool.{cond};
 ghost use Prim.Native.Nat.{_+_, _≤_, _<_};
-ghost use lib.Dec.{eqb};
 ghost use lib.ListN.{length};
-ghost use Rattle.pixel.specs.Alpha.{unpremultiplied};
+ghost use Rattle.kernel_alpha.specs.Tables.{UnpremultiplyTable};
 ghost use Rattle.window.specs.Store.{Filled};
 ghost use Rattle.kernel_remap.specs.Code.{Mapped, seenColour, unpremultipliedAt, lineEntry};
 ghost use Rattle.kernel_remap.specs.Pairs.{Pairs};
@@ -32,23 +32,6 @@ fn clear(table: &mut [u8])
     }
 }
 
-fn divisor(a: u32) -> u32
-    ensures { λ r. ⌜ r ≡ cond (eqb a 0) 1 a ⌝ }
-{
-    if a == 0 {
-        return 1;
-    }
-    a
-}
-
-// The colour c at the alpha a, unpremultiplied; at the alpha 0, where c is 0, a division by 1 gives 0 with no branch of its own.
-pub(crate) fn unpremultiply(c: u8, a: u8) -> u8
-    requires { ⌜ c ≤ a ⌝ }
-    ensures { λ r. ⌜ r ≡ unpremultiplied c a ⌝ }
-{
-    ((255 * (c as u32) + (a as u32) / 2) / divisor(a as u32)) as u8
-}
-
 // The colour c at the alpha a, converted where there is a table for it. Only the contract reads `to`, here and below.
 fn seen(to: Space, inner: &[u8], c: usize, a: usize) -> u8
     requires { ⌜ Inner to (now inner) × (c ≤ a) × (a < 256) ⌝ }
@@ -60,14 +43,20 @@ fn seen(to: Space, inner: &[u8], c: usize, a: usize) -> u8
     inner[256 * a + c]
 }
 
-// The colours up to the alpha a, unpremultiplied: each is divided once, however many maps look it up.
-pub(crate) fn fill_unpremultiplied(to: Space, inner: &[u8], a: usize, line: &mut [u8])
-    requires { ⌜ Inner to (now inner) × (a < 256) × (length (now line) ≡ 256) ⌝ }
+// The colours up to the alpha a, unpremultiplied: each once, however many maps look it up, and with no division.
+pub(crate) fn fill_unpremultiplied(
+    to: Space,
+    inner: &[u8],
+    inverse: &[u32],
+    a: usize,
+    line: &mut [u8],
+)
+    requires { ⌜ Inner to (now inner) × UnpremultiplyTable (now inverse) × (a < 256) × (length (now line) ≡ 256) ⌝ }
     ensures { λ _. ⌜ Filled (unpremultipliedAt to (now (inner .entry)) a) 0 (a + 1) (now (line .entry)) (now (line .exit)) ⌝ }
 {
     let end = a + 1;
     for c in 0..end {
-        line[c] = unpremultiply(seen(to, inner, c, a), a as u8);
+        line[c] = unpremultiply(inverse, seen(to, inner, c, a), a as u8) as u8;
     }
 }
 
@@ -104,9 +93,11 @@ pub(crate) fn fill_lines(to: Space, map: &[u8], table: &mut [u8])
 {
     clear(table);
     let none = &map[..0];
+    let mut inverse = [0u32; 512];
+    prepare(&mut inverse);
     let mut line = [0u8; 256];
     for a in 1usize..256 {
-        fill_unpremultiplied(to, none, a, &mut line);
+        fill_unpremultiplied(to, none, &inverse, a, &mut line);
         fill_line(map, 0, &line, table, 256 * a, a + 1, a as u8);
     }
 }

@@ -3,3 +3,4 @@ pub mod AlphaWords
 pub mod LentParts
 pub mod MovedRows
 pub mod FirstInvalid
+pub mod Marks

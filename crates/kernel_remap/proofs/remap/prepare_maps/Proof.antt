@@ -9,16 +9,25 @@ use Rattle.kernel_remap.proofs.remap.prepare_maps.Statement.{statement}
 use Rattle.kernel_remap.proofs.remap.prepare_maps.Tie as tie
 
 abbrev Inv-loop : tie.InvT-loop
-Inv-loop to inner maps tables₀ line₀ a₀ tables line a = (a ≤ 256) × (length line ≡ 256) × (length tables ≡ 196608) × TablesFilled to inner maps a tables
+Inv-loop to inner maps tables₀ inverse line₀ a₀ tables line a = (a ≤ 256) × (length line ≡ 256) × (length tables ≡ 196608) × TablesFilled to inner maps a tables
 
 abbrev μ-loop : tie.MeasureT-loop
-μ-loop to inner maps tables₀ line₀ a₀ tables line a = 256 - a
+μ-loop to inner maps tables₀ inverse line₀ a₀ tables line a = 256 - a
+
+slice-aggregate-prepare : tie.Need-slice-aggregate-prepare Inv-loop μ-loop
+slice-aggregate-prepare c = search needs
+
+prepare-requires : tie.Need-prepare-requires Inv-loop μ-loop
+prepare-requires c κs = search needs
 
 loop-holds : tie.Need-loop-holds Inv-loop μ-loop
-loop-holds c = (omega arith, search needs, c .before .before .before .pre .2, tables-filled-none _ _ _ _)
+loop-holds c = (omega arith, search needs, c .before .before .before .before .before .before .pre .2, tables-filled-none _ _ _ _)
 
 slice-aggregate-fill-unpremultiplied : tie.Need-slice-aggregate-fill-unpremultiplied Inv-loop μ-loop
 slice-aggregate-fill-unpremultiplied c = search needs
+
+slice-aggregate-fill-unpremultiplied-2 : tie.Need-slice-aggregate-fill-unpremultiplied-2 Inv-loop μ-loop
+slice-aggregate-fill-unpremultiplied-2 c = search needs
 
 fill-unpremultiplied-requires : tie.Need-fill-unpremultiplied-requires Inv-loop μ-loop
 fill-unpremultiplied-requires c κs = search needs
@@ -39,18 +48,18 @@ loop-again : tie.Need-loop-again Inv-loop μ-loop
 loop-again c =
     let tables = c .before .before in
     let line = tables .before .before .before .before in
-    let L = line .before .before .before .loop in
+    let L = line .before .before .before .before .loop in
     let S = line .fill-unpremultiplied .ensures in
     let T = tables .fill-tables .ensures in
     (omega arith, S .long ∙ L .inv .1, T .long ∙ L .inv .2, tables-filled-more _ _ _ _ _ (L .a) _ _ (omega arith) (L .inv .3) S T)
 
 same-length : tie.Need-same-length Inv-loop μ-loop
-same-length c = omega (arith, c .before .loop .inv .2, c .before .before .before .before .before .pre .2)
+same-length c = omega (arith, c .before .loop .inv .2, c .before .before .before .before .before .before .before .before .pre .2)
 
 returns : tie.Need-returns Inv-loop μ-loop
 returns c =
     let L = c .before .loop in
-    let s = c .before .before .before .before .before .args in
+    let s = c .before .before .before .before .before .before .before .before .args in
     let e : L .a ≡ 256 = omega arith in
     tables-filled-all (s .to) (s .inner .now) (s .maps .now) (L .tables) (rw e at (L .inv .3)) (L .inv .2)
 
@@ -60,8 +69,11 @@ prepare-maps-spec =
     (tie.spec
     Inv-loop
     μ-loop
+    slice-aggregate-prepare
+    prepare-requires
     loop-holds
     slice-aggregate-fill-unpremultiplied
+    slice-aggregate-fill-unpremultiplied-2
     fill-unpremultiplied-requires
     slice-aggregate-fill-tables
     fill-tables-requires

@@ -9,10 +9,10 @@ use Rattle.kernel_remap.proofs.table.fill_lines.Statement.{statement}
 use Rattle.kernel_remap.proofs.table.fill_lines.Tie as tie
 
 abbrev Inv-loop : tie.InvT-loop
-Inv-loop to map table₀ none line₀ a₀ table line a = (1 ≤ a) × (a ≤ 256) × (length line ≡ 256) × (length table ≡ 65536) × Begun to a table
+Inv-loop to map table₀ none inverse line₀ a₀ table line a = (1 ≤ a) × (a ≤ 256) × (length line ≡ 256) × (length table ≡ 65536) × Begun to a table
 
 abbrev μ-loop : tie.MeasureT-loop
-μ-loop to map table₀ none line₀ a₀ table line a = 256 - a
+μ-loop to map table₀ none inverse line₀ a₀ table line a = 256 - a
 
 clear-requires : tie.Need-clear-requires Inv-loop μ-loop
 clear-requires c κs = search needs
@@ -20,14 +20,23 @@ clear-requires c κs = search needs
 slice-aggregate-none : tie.Need-slice-aggregate-none Inv-loop μ-loop
 slice-aggregate-none c = search needs
 
+slice-aggregate-prepare : tie.Need-slice-aggregate-prepare Inv-loop μ-loop
+slice-aggregate-prepare c = search needs
+
+prepare-requires : tie.Need-prepare-requires Inv-loop μ-loop
+prepare-requires c κs = search needs
+
 loop-holds : tie.Need-loop-holds Inv-loop μ-loop
 loop-holds c =
-    let F = c .before .before .before .clear .ensures in
-    let s = c .before .before .before .before .before .before .before in
+    let F = c .before .before .before .before .before .before .clear .ensures in
+    let s = c .before .before .before .before .before .before .before .before .before .before in
     (omega arith, omega arith, search needs, F .long ∙ s .pre .1, begun-first _ _ (λ i l. F .inside i (omega arith) (omega (arith, s .pre .1))))
 
 slice-aggregate-fill-unpremultiplied : tie.Need-slice-aggregate-fill-unpremultiplied Inv-loop μ-loop
 slice-aggregate-fill-unpremultiplied c = search needs
+
+slice-aggregate-fill-unpremultiplied-2 : tie.Need-slice-aggregate-fill-unpremultiplied-2 Inv-loop μ-loop
+slice-aggregate-fill-unpremultiplied-2 c = search needs
 
 fill-unpremultiplied-requires : tie.Need-fill-unpremultiplied-requires Inv-loop μ-loop
 fill-unpremultiplied-requires c κs = search needs
@@ -57,8 +66,8 @@ loop-again : tie.Need-loop-again Inv-loop μ-loop
 loop-again c =
     let table = c .before .before in
     let line = table .before .before .before .before in
-    let L = line .before .before .before .loop in
-    let s = line .before .before .before .before .before .before .before .before .before .before .before in
+    let L = line .before .before .before .before .loop in
+    let s = line .before .before .before .before .before .before .before .before .before .before .before .before .before .before .before in
     let S = line .fill-unpremultiplied .ensures in
     let F = table .fill-line .ensures in (
       omega arith,
@@ -69,7 +78,7 @@ loop-again c =
     )
 
 same-length : tie.Need-same-length Inv-loop μ-loop
-same-length c = omega (arith, c .before .loop .inv .3, c .before .before .before .before .before .before .before .before .before .pre .1)
+same-length c = omega (arith, c .before .loop .inv .3, c .before .before .before .before .before .before .before .before .before .before .before .before .pre .1)
 
 returns : tie.Need-returns Inv-loop μ-loop
 returns c =
@@ -83,8 +92,11 @@ fill-lines-spec =
     μ-loop
     clear-requires
     slice-aggregate-none
+    slice-aggregate-prepare
+    prepare-requires
     loop-holds
     slice-aggregate-fill-unpremultiplied
+    slice-aggregate-fill-unpremultiplied-2
     fill-unpremultiplied-requires
     slice-aggregate-fill-line
     mul-fill-line

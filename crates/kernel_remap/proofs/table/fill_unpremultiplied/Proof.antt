@@ -12,10 +12,10 @@ use Rattle.kernel_remap.proofs.table.fill_unpremultiplied.Statement.{st
 use Rattle.kernel_remap.proofs.table.fill_unpremultiplied.Tie as tie
 
 abbrev Inv-loop : tie.InvT-loop
-Inv-loop to inner a line₀ end c₀ line c = (c ≤ a + 1) × (end ≡ a + 1) × Filled (unpremultipliedAt to inner a) 0 c line₀ line
+Inv-loop to inner inverse a line₀ end c₀ line c = (c ≤ a + 1) × (end ≡ a + 1) × Filled (unpremultipliedAt to inner a) 0 c line₀ line
 
 abbrev μ-loop : tie.MeasureT-loop
-μ-loop to inner a line₀ end c₀ line c = a + 1 - c
+μ-loop to inner inverse a line₀ end c₀ line c = a + 1 - c
 
 add-end : tie.Need-add-end Inv-loop μ-loop
 add-end c = search needs
@@ -32,6 +32,9 @@ cast-unpremultiply c = search needs
 unpremultiply-requires : tie.Need-unpremultiply-requires Inv-loop μ-loop
 unpremultiply-requires c κs = search needs
 
+cast-line : tie.Need-cast-line Inv-loop μ-loop
+cast-line c = search needs
+
 slice-write-line : tie.Need-slice-write-line Inv-loop μ-loop
 slice-write-line c = omega (arith, c .before .before .before .loop .inv .2 .long)
 
@@ -44,9 +47,9 @@ loop-less c = search needs
 loop-again : tie.Need-loop-again Inv-loop μ-loop
 loop-again c =
     let L = c .before .before .before .loop in
-    let s = c .before .before .before .before .before .before .args in
+    let s = c .before .before .before .before .before .before .before .args in
     let h : L .c < length (s .line .now) = omega arith in
-    let e = c .unpremultiply .ensures ∙ ap (λ (u : ℕ). unpremultiplied u (s .a)) (c .before .seen .ensures .0) in
+    let e = c .unpremultiply .ensures .0 ∙ ap (λ (u : ℕ). unpremultiplied u (s .a)) (c .before .seen .ensures .0) in
     (omega arith, L .inv .1, filled-more _ _ _ _ _ _ (omega arith) h e (L .inv .2))
 
 same-length : tie.Need-same-length Inv-loop μ-loop
@@ -54,7 +57,7 @@ same-length c = c .before .loop .inv .2 .long
 
 returns : tie.Need-returns Inv-loop μ-loop
 returns c =
-    let s = c .before .before .before .before .args in
+    let s = c .before .before .before .before .before .args in
     let e : c .before .loop .c ≡ s .a + 1 = omega arith in
     rw (← e) (c .before .loop .inv .2)
 
@@ -69,6 +72,7 @@ fill-unpremultiplied-spec =
     seen-requires
     cast-unpremultiply
     unpremultiply-requires
+    cast-line
     slice-write-line
     add-c
     loop-less

@@ -1,7 +1,7 @@
--- `kernel_remap::table::divisor` meets its contract: the test whether the alpha is 0. Assumes nothing.
+-- `kernel_remap::few::divisor` meets its contract: the test whether the alpha is 0. Assumes nothing.
 use borrow.Author.Tests.{eq-eqb, ne-eqb}
-use Rattle.kernel_remap.proofs.table.divisor.Statement.{statement}
-use Rattle.kernel_remap.proofs.table.divisor.Tie as tie
+use Rattle.kernel_remap.proofs.few.divisor.Statement.{statement}
+use Rattle.kernel_remap.proofs.few.divisor.Tie as tie
 
 returns : tie.Need-returns
 returns c = simp (eq-eqb _ _ (c .if1 .taken))

@@ -1,4 +1,4 @@
--- `kernel_remap::table::unpremultiply` meets its contract: the law of the divisor. Assumes nothing.
+-- `kernel_remap::few::unpremultiply` meets its contract: the law of the divisor. Assumes nothing.
 use mathlib.Core.Path.{_≡_, _∙_, ap}
 use Prim.Native.Nat.{ℕ, _+_, _*_, _/_}
 use native.Mathlib.Omega.{arith}
@@ -6,8 +6,8 @@ use Rattle.pixel.specs.Alpha.{unpremultiplied}
 use Rattle.pixel.proofs.Premultiplied.{unpremultiplied-byte}
 use Rattle.kernel_remap.proofs.SpaceMaps.{divided, divisor-pos}
 use borrow.Author.Needs.{needs}
-use Rattle.kernel_remap.proofs.table.unpremultiply.Statement.{statement}
-use Rattle.kernel_remap.proofs.table.unpremultiply.Tie as tie
+use Rattle.kernel_remap.proofs.few.unpremultiply.Statement.{statement}
+use Rattle.kernel_remap.proofs.few.unpremultiply.Tie as tie
 
 quotient : (c : tie.After-divisor) → (255 * c .before .args .c + c .before .args .a / 2) / c .divisor .result ≡ unpremultiplied (c .before .args .c) (c .before .args .a)
 quotient c =
