@@ -12,7 +12,7 @@
  * A slice is a pointer and its length in bytes. Every length and every number is checked: what does not fit is refused,
  * and a refused render or redraw changes no byte of any slice. What the library cannot check is the caller's part: a
  * pointer is not null, not even with length 0, and has that many bytes behind it, and what is written does not overlap
- * anything else that is passed. Nothing is allocated; a call uses up to 500 KB of stack,
+ * anything else that is passed. Nothing is allocated; a call uses up to 520 KB of stack,
  * twillgoose_sheet up to 420 KB.
  *
  * Steps are lines of text, each closed by a line feed, their fields parted by one tab: kind, x, y, width, height of its
@@ -34,23 +34,27 @@
  *     over, in, out, atop, xor          top bottom
  *     arith     input input k1 .. k4    -256 to 256
  *     merge     1 to 4 inputs           bottom first
+ *     conv      input, order across, order down (1 to 5), the kernel's values by rows, divisor (empty: the values' sum, or
+ *               1 where that is 0), bias, target across, target down (inside the kernel), true or false (whether alpha is
+ *               preserved), duplicate, wrap or none (what is read beyond the canvas); values, divisor, bias -256 to 256
  *
  * The space is srgb or linear; without that last field a step works in linear light. The source is sRGB. Each layer is
  * kept in its step's space, and its bytes in the workspace are in it: a step of the other space reads them converted, and
  * so must whoever shows them. With srgb on every step nothing is converted. A curve's space stands after the fourth
- * transfer; its own linear is never taken for it.
+ * transfer, its own linear is never taken for it; a conv's after the edge mode. No field but a conv's divisor may be empty.
  *
- * Whole fields (the region, a step's number, a flood's bytes, a count n) have 1 to 4 digits, no sign and no leading zeros. A number
- * is an optional minus, 1 to 5 digits without leading zeros, optionally a point and 1 to 4 digits; or x and the eight
- * lower-case hexadecimal digits of a single. It is checked as it stands, then rounded to the nearest 1/65,536. A single
- * halfway between two goes to the even one; no decimal lies there.
+ * Whole fields (the region, a step's number, a flood's bytes, a count n, orders, targets) have 1 to 4 digits, no sign and
+ * no leading zeros. A number is an optional minus, 1 to 5 digits without leading zeros, optionally a point and 1 to 4
+ * digits; or x and the eight lower-case hexadecimal digits of a single. It is checked as it stands, then rounded to the
+ * nearest 1/65,536. A single halfway between two goes to the even one; no decimal lies there.
  *
  * Answers, in the order of checking. The place is 0 unless said:
  *
  *      0  done
  *     15  a step line is not of the form; so are a sixty-fifth line,    place: the line, from 1
  *         a flood's byte above 255, a merge of 0 or 5 inputs, a count
- *         n of 0 or above 16, another word for a transfer or the space
+ *         n of 0 or above 16, an order of 0 or above 5, another word
+ *         for a transfer, alpha, the edge or the space
  *      1  width or height is 0 or above 1,024
  *      2  the source is not 4 * W * H bytes
  *      3  no step
@@ -58,11 +62,13 @@
  *      5  the scratch buffer is not 8 * W * H bytes
  *      6  redraw: the rectangle is not inside the canvas
  *      7  an input is not the source, its alpha or an earlier step      place: the step
+ *     17  a conv's target is not inside its kernel                      place: the step
  *      8  a number is not a number, or infinite                         place: the step
  *      9  a number below zero whose range starts at 0                   place: the step
  *     10  a number outside its range otherwise                          place: the step
  *     11  a number that must be whole and is not                        place: the step
  *     12  retired: never given, and not used again
+ *     17  a conv's divisor is given and rounds to 0                     place: the step
  *     13  a region leaves the canvas                                    place: the step
  *     14  a colour exceeds its alpha: in the source, then in a          place: the pixel, from 0
  *         redraw in the workspace
@@ -81,7 +87,7 @@ extern "C" {
 #endif
 
 /* The rules that this header describes. */
-#define TWILLGOOSE_RULES 6
+#define TWILLGOOSE_RULES 7
 
 enum {
     TWILLGOOSE_DONE = 0,
@@ -98,7 +104,8 @@ enum {
     TWILLGOOSE_NOT_WHOLE = 11,
     TWILLGOOSE_OUTSIDE_CANVAS = 13,
     TWILLGOOSE_ABOVE_ALPHA = 14,
-    TWILLGOOSE_LINE = 15
+    TWILLGOOSE_LINE = 15,
+    TWILLGOOSE_KERNEL = 17
 };
 
 /* Draws every layer of the steps on the picture in `source`. Returns the number and stores the place. Done: `workspace`

@@ -6,7 +6,7 @@ use crate::fault::{Fault, ALL};
 use crate::print::{self, Style};
 use crate::random::Random;
 use crate::step::Region;
-use crate::sums::{in_linear_light, source, EDIT, GLOW, KEY, SEED, SHADOW, SIDE};
+use crate::sums::{in_linear_light, source, EDIT, GLOW, KEY, RELIEF, SEED, SHADOW, SIDE};
 use std::time::{Duration, Instant};
 
 /// Comparisons made, and what went wrong in some of them.
@@ -32,7 +32,7 @@ impl Tally {
 }
 
 /// The large sheets, each in sRGB and in linear light.
-const LARGE: u64 = 6;
+const LARGE: u64 = 8;
 
 /// A case at 1,024 × 1,024: the large sheets, then random ones of a few steps.
 fn large(seed: u64) -> Case {
@@ -42,9 +42,11 @@ fn large(seed: u64) -> Case {
         0 => SHADOW.into(),
         1 => GLOW.into(),
         2 => KEY.into(),
-        3 => in_linear_light(SHADOW).into(),
-        4 => in_linear_light(GLOW).into(),
-        5 => in_linear_light(KEY).into(),
+        3 => RELIEF.into(),
+        4 => in_linear_light(SHADOW).into(),
+        5 => in_linear_light(GLOW).into(),
+        6 => in_linear_light(KEY).into(),
+        7 => in_linear_light(RELIEF).into(),
         _ => print::steps(&cases::sheet(&mut random, 3, SIDE, SIDE, false), Style::default()).into_bytes(),
     };
     let count = steps.iter().filter(|byte| **byte == b'\n').count();

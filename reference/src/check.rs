@@ -1,7 +1,8 @@
-//! Refusal numbers, in the order of checking (RULES 7): 1 to 14 and 16.
+//! Refusal numbers, in the order of checking (RULES 7): 1 to 14, 16 and 17.
 
+use crate::convolve::{exact_sum, Convolution, MOST_ORDER};
 use crate::fault::Fault;
-use crate::number::judge;
+use crate::number::{judge, Number, UNIT};
 use crate::step::{Checked, Input, Kind, Region, Step, LONGEST_SIDE, MOST_STEPS};
 use crate::transfer::{Transfer, MOST_ENTRIES};
 use crate::window::box_size;
@@ -114,6 +115,31 @@ fn entries_are_wrong(kind: Kind, fault: Fault) -> bool {
     counted.iter().any(|transfer| wrong(transfer) && !passed(transfer))
 }
 
+/// "17 .. for a bad order .. or target": "orders 1 to 5 each way", "the target lies inside the kernel".
+fn kernel_is_wrong(kind: Kind, fault: Fault) -> bool {
+    let Kind::Convolve(shape) = kind else { return false };
+    let Convolution { columns, rows, column, row, .. } = shape;
+    let most = MOST_ORDER + fault.choose(Fault::SixthOrderAllowed, 0, 1);
+    let order = |order: usize| order == 0 || order > most;
+    let target = |target: usize, order: usize| target >= order + fault.choose(Fault::TargetAtEnd, 0, 1);
+    order(columns)
+        || order(rows) && !fault.is(Fault::OrderDownUnchecked)
+        || target(column, columns)
+        || target(row, rows) && !fault.is(Fault::TargetDownUnchecked)
+}
+
+/// "17 also for a given divisor whose units are 0."
+fn divisor_is_wrong(step: &Step, units: &[i64], fault: Fault) -> bool {
+    let Kind::Convolve(shape @ Convolution { divided: true, .. }) = step.kind else { return false };
+    match fault {
+        Fault::ZeroDivisorIsAbsent => false,
+        Fault::DivisorJudgedExactly => {
+            matches!(step.numbers[shape.values()], Number::Decimal(0) | Number::Single(0 | 0x8000_0000))
+        }
+        _ => units[shape.values()] == 0,
+    }
+}
+
 /// Each number in its listed order through 8 to 11.
 fn numbers(step: &Step, fault: Fault) -> Result<Vec<i64>, u8> {
     let judged: Vec<Result<i64, u8>> =
@@ -130,15 +156,18 @@ fn is_widest(kind: Kind, units: &[i64]) -> bool {
     kind == Kind::Blur && units.iter().any(|units| box_size(*units, Fault::None) == 60)
 }
 
-/// Within a step 7, then 16, then each number through 8 to 11, then 13.
+/// Within a step 7, then 16 or 17, then each number through 8 to 11, then 17 for a divisor of 0, then 13.
 fn step(n: usize, step: &Step, call: &Call, fault: Fault) -> Result<Checked, u8> {
     let leaves = leaves(step.region, call.width, call.height, fault.is(Fault::EmptyRegionAnywhere));
     if leaves && fault.is(Fault::ThirteenFirst) {
         return Err(13);
     }
-    let entries = entries_are_wrong(step.kind, fault);
+    let (entries, kernel) = (entries_are_wrong(step.kind, fault), kernel_is_wrong(step.kind, fault));
     if entries && fault.is(Fault::SixteenBeforeSeven) {
         return Err(16);
+    }
+    if kernel && fault.is(Fault::SeventeenBeforeSeven) {
+        return Err(17);
     }
     if inputs_are_wrong(n, step, fault) {
         return Err(7);
@@ -146,12 +175,27 @@ fn step(n: usize, step: &Step, call: &Call, fault: Fault) -> Result<Checked, u8>
     if entries && !fault.is(Fault::SixteenAfterNumbers) {
         return Err(16);
     }
+    if kernel && !fault.is(Fault::SeventeenAfterNumbers) {
+        return Err(17);
+    }
     if leaves && fault.is(Fault::ThirteenBeforeNumbers) {
         return Err(13);
     }
-    let units = numbers(step, fault)?;
+    if fault.is(Fault::DivisorBeforeBias) && divisor_is_first(step) {
+        return Err(17);
+    }
+    let mut units = numbers(step, fault)?;
     if entries {
         return Err(16);
+    }
+    if kernel {
+        return Err(17);
+    }
+    if leaves && fault.is(Fault::ThirteenBeforeDivisor) {
+        return Err(13);
+    }
+    if divisor_is_wrong(step, &units, fault) {
+        return Err(17);
     }
     if fault.is(Fault::TwelveGiven) && is_widest(step.kind, &units) {
         return Err(12);
@@ -159,8 +203,27 @@ fn step(n: usize, step: &Step, call: &Call, fault: Fault) -> Result<Checked, u8>
     if leaves {
         return Err(13);
     }
-    let Step { kind, region, colour, space, .. } = *step;
+    let Step { mut kind, region, colour, space, .. } = *step;
+    if fault.is(Fault::AbsentDivisorExact) {
+        kind = with_exact_divisor(step, &mut units);
+    }
     Ok(Checked { kind, region, inputs: used(step).to_vec(), colour, units, space })
+}
+
+/// For a fault: whether a given divisor of 0 units comes before any number that is refused but the bias.
+fn divisor_is_first(step: &Step) -> bool {
+    let mut without_bias = step.clone();
+    without_bias.numbers.pop();
+    numbers(&without_bias, Fault::None).is_ok_and(|units| divisor_is_wrong(step, &units, Fault::None))
+}
+
+/// For a fault: an absent divisor given, from exact values.
+fn with_exact_divisor(step: &Step, units: &mut Vec<i64>) -> Kind {
+    let Kind::Convolve(shape) = step.kind else { return step.kind };
+    let sum = exact_sum(&step.numbers[..shape.values()]).filter(|_| !shape.divided);
+    let Some(sum) = sum else { return step.kind };
+    units.insert(shape.values(), if sum == 0 { UNIT } else { sum });
+    Kind::Convolve(Convolution { divided: true, ..shape })
 }
 
 /// The first pixel with a colour above its alpha, counted from 0 in its buffer.

@@ -1,5 +1,6 @@
 //! Which part is redrawn (RULES 6.3, 6.5): the rectangle of each step, and the count.
 
+use crate::convolve::spread;
 use crate::fault::Fault;
 use crate::number::UNIT;
 use crate::rect::Rect;
@@ -59,6 +60,10 @@ fn reach(step: &Checked, rect: Rect, fault: Fault) -> Rect {
             Fault::CurveRectWhole => rect.grown(1024, 1024, 1024, 1024),
             Fault::CurveRectEmpty => Rect::EMPTY,
             _ => rect,
+        },
+        Kind::Convolve(shape) => match spread(shape, fault) {
+            Some([left, right, above, below]) => rect.grown(left, right, above, below),
+            None => rect.grown(1024, 1024, 1024, 1024),
         },
         _ => rect,
     }

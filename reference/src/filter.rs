@@ -1,5 +1,6 @@
 //! The work of each kind of step, from the pictures at its inputs, on the whole canvas. The region cuts afterwards.
 
+use crate::convolve::convolved;
 use crate::fault::Fault;
 use crate::number::UNIT;
 use crate::picture::Picture;
@@ -41,6 +42,7 @@ impl Stand {
             Kind::Offset => fault.is(Fault::OffsetUnconverted),
             Kind::Curve(_) => fault.is(Fault::CurveUnconverted),
             Kind::Merge => fault.is(Fault::MergeUnconverted),
+            Kind::Convolve(_) => fault.is(Fault::ConvolveUnconverted),
             _ => false,
         };
         space::picture(if stored { step.space } else { space }, step.space, picture, fault)
@@ -108,6 +110,7 @@ pub fn work(step: &Checked, stand: &Stand, fault: Fault) -> Picture {
             let pixels: Vec<Pixel> = inputs.iter().map(|input| input.at(x, y)).collect();
             merge(&pixels, fault)
         }),
+        Kind::Convolve(shape) => convolved(shape, units, &inputs[0], Rect::of(step.region), fault),
     }
 }
 

@@ -5,11 +5,11 @@
 //! that docs/RULES.md restates.
 //!
 //! - `wide`, `ratio`, `number`: exact values, refusals 8 to 11, units
-//! - `pixel`, `space`, `transfer`, `window`, `filter`: the arithmetic of one pixel, working spaces, component transfer,
-//!   neighbourhoods, the work of each kind
+//! - `pixel`, `space`, `transfer`, `window`, `convolve`, `filter`: the arithmetic of one pixel, working spaces, component
+//!   transfer, neighbourhoods, convolution, the work of each kind
 //! - `rect`, `damage`: rectangles of a redraw and their count
 //! - `step`, `check`, `render`: sheets, the refusal table, the entry points
-//! - `line`, `curve_line`, `text`, `print`: the text form, the reader into a lent list, and what `sheet` prints
+//! - `line`, `curve_line`, `conv_line`, `text`, `print`: the text form, the reader into a lent list, and what `sheet` prints
 //! - `fault`: wrong variants of the rules
 //! - `random`, `cases`: seeded sheets, pictures, calls and texts
 //! - `compare`, `budget`, `library`, `program`, `sums`: the comparison, its runs, what it is run against
@@ -18,6 +18,8 @@ pub mod budget;
 pub mod cases;
 pub mod check;
 pub mod compare;
+mod conv_line;
+pub mod convolve;
 mod curve_line;
 pub mod damage;
 pub mod fault;

@@ -1,5 +1,6 @@
 //! One line of a text (RULES 9.2 to 9.5): its fields, and the step, row or canvas that they are.
 
+use crate::conv_line::convolution;
 use crate::curve_line::transfers;
 use crate::fault::Fault;
 use crate::number::Number;
@@ -105,8 +106,8 @@ pub fn space(field: &[u8], fault: Fault) -> Option<Space> {
     SPACES.iter().find(|(word, _)| same(word)).map(|(_, space)| *space)
 }
 
-/// How many fields a step of the kind has without its space, and without the words and counts of a curve; nothing for a
-/// merge, which has 6 to 9.
+/// How many fields a step of the kind has without its space, and without those that are no numbers in a curve or a
+/// convolution; nothing for a merge, which has 6 to 9.
 fn fixed_fields(kind: Kind) -> Option<usize> {
     let bytes = if kind == Kind::Flood { 3 } else { 0 };
     (kind != Kind::Merge).then_some(5 + bytes + kind.inputs().0 + kind.ranges().count())
@@ -129,12 +130,14 @@ fn spaced<'a, 'b>(kind: Kind, fields: &'a [&'b [u8]], fault: Fault) -> Option<(S
     }
 }
 
-/// The kind of a line, and its fields without the words and counts of a curve.
+/// The kind of a line, and its fields without the words and counts of a curve, the orders and choices of a convolution.
 fn kind_of(fields: Vec<&[u8]>, fault: Fault) -> Option<(Kind, Vec<&[u8]>)> {
     let kind = KINDS.iter().find(|(word, _)| word.as_bytes() == fields[0])?.1;
-    let Kind::Curve(_) = kind else { return Some((kind, fields)) };
-    let (transfers, plain) = transfers(&fields, fault)?;
-    Some((Kind::Curve(transfers), plain))
+    match kind {
+        Kind::Curve(_) => transfers(&fields, fault).map(|(transfers, plain)| (Kind::Curve(transfers), plain)),
+        Kind::Convolve(_) => convolution(&fields, fault).map(|(shape, plain)| (Kind::Convolve(shape), plain)),
+        kind => Some((kind, fields)),
+    }
 }
 
 /// "A step is its kind, x, y, width, height, inputs, numbers", and its working space.

@@ -1,6 +1,7 @@
 //! What is printed: the answer of `sheet`, and steps as lines of text.
 
 use crate::check::Answer;
+use crate::convolve::Convolution;
 use crate::fault::Fault;
 use crate::number::Number;
 use crate::picture::Picture;
@@ -70,15 +71,30 @@ pub struct Style {
     pub named: u64,
 }
 
-/// A step's numbers as fields; those of a curve with its words and counts.
+/// A step's numbers as fields; those of a curve with its words and counts, those of a convolution with orders and choices.
 fn numbers(step: &Step, style: Style) -> Vec<String> {
     let mut written = step.numbers.iter().map(|n| number(*n, style.places));
-    let Kind::Curve(transfers) = step.kind else { return written.collect() };
+    let transfers = match step.kind {
+        Kind::Curve(transfers) => transfers,
+        Kind::Convolve(shape) => return convolution(shape, written.collect()),
+        _ => return written.collect(),
+    };
     let channel = |transfer: Transfer| {
         let head = [transfer.word().to_string()].into_iter().chain(transfer.entries().map(|count| count.to_string()));
         head.chain(written.by_ref().take(transfer.numbers().1)).collect::<Vec<String>>()
     };
     transfers.into_iter().flat_map(channel).collect()
+}
+
+/// The fields of a convolution after its input.
+fn convolution(shape: Convolution, mut numbers: Vec<String>) -> Vec<String> {
+    let Convolution { columns, rows, divided, column, row, preserve, edge } = shape;
+    if !divided {
+        numbers.insert(columns * rows, String::new());
+    }
+    let orders = [columns, rows].map(|n| n.to_string());
+    let choices = [column.to_string(), row.to_string(), preserve.to_string(), edge.word().to_string()];
+    [&orders[..], &numbers, &choices].concat()
 }
 
 /// Step n as a line, its line feed included.

@@ -1,5 +1,6 @@
 //! Sheets: kinds of steps, their inputs, numbers, regions and working spaces.
 
+use crate::convolve::Convolution;
 use crate::number::{Number, Range};
 use crate::pixel::Operator;
 use crate::space::Space;
@@ -36,13 +37,17 @@ pub enum Kind {
     Composite(Operator),
     Arithmetic,
     Merge,
+    Convolve(Convolution),
 }
 
 /// A curve that changes nothing.
 const NO_CURVE: Kind = Kind::Curve([Transfer::Identity; 4]);
 
-/// The kinds and their words in text. The one curve stands for all.
-pub const KINDS: [(&str, Kind); 16] = [
+/// A kernel of one value.
+const ONE_VALUE: Kind = Kind::Convolve(Convolution::ONE);
+
+/// The kinds and their words in text. The one curve stands for all, and the one convolution.
+pub const KINDS: [(&str, Kind); 17] = [
     ("flood", Kind::Flood),
     ("offset", Kind::Offset),
     ("blur", Kind::Blur),
@@ -59,6 +64,7 @@ pub const KINDS: [(&str, Kind); 16] = [
     ("xor", Kind::Composite(Operator::Xor)),
     ("arith", Kind::Arithmetic),
     ("merge", Kind::Merge),
+    ("conv", ONE_VALUE),
 ];
 
 /// "A region x, y, width, height in whole pixels." Also the rectangle that the caller of a redraw names.
@@ -111,10 +117,11 @@ impl Kind {
             Kind::Curve(transfers) => transfers.map(Transfer::numbers).to_vec(),
             Kind::Arithmetic => vec![(COEFFICIENT, 4)],
             Kind::Lumalpha | Kind::Composite(_) | Kind::Merge => Vec::new(),
+            Kind::Convolve(shape) => vec![(COEFFICIENT, shape.numbers())],
         }
     }
 
-    /// What is allowed for each. A record may claim any count of entries, so that nobody walks them all.
+    /// What is allowed for each. A record may claim any count of entries and any orders, so that nobody walks them all.
     pub fn ranges(self) -> impl Iterator<Item = Range> {
         self.numbers().into_iter().flat_map(|(range, count)| std::iter::repeat_n(range, count))
     }
@@ -130,7 +137,11 @@ impl Kind {
     }
 
     pub fn word(self) -> &'static str {
-        let kind = if matches!(self, Kind::Curve(_)) { NO_CURVE } else { self };
+        let kind = match self {
+            Kind::Curve(_) => NO_CURVE,
+            Kind::Convolve(_) => ONE_VALUE,
+            kind => kind,
+        };
         KINDS.iter().find(|(_, one)| *one == kind).expect("every kind has a word").0
     }
 }

@@ -38,6 +38,13 @@ flood\t0\t0\t1024\t1024\t32\t64\t160\t1\tsrgb
 over\t0\t0\t1024\t1024\t1\t2\tsrgb
 ";
 
+/// A relief: the picture sharpened, its slopes in half of its alpha, and a soft picture of these that goes round the edges.
+pub const RELIEF: &str =
+    "conv\t0\t0\t1024\t1024\tsrc\t3\t3\t0\t-1\t0\t-1\t5\t-1\t0\t-1\t0\t\t0\t1\t1\ttrue\tduplicate\tsrgb
+conv\t8\t8\t1008\t1008\t0\t3\t3\t-2\t-1\t0\t-1\t0\t1\t0\t1\t2\t\t0.5\t1\t1\tfalse\tnone\tsrgb
+conv\t0\t0\t1024\t1024\t1\t5\t2\t-1\t-4\t-6\t-4\t-1.25\t-0.5\t-2\t-3\t-2\t-0.5\t-24.5\t-0.1\t4\t0\tfalse\twrap\tsrgb
+";
+
 /// The same lines without their spaces: linear is the default.
 pub fn in_linear_light(lines: &str) -> String {
     lines.replace("\tsrgb\n", "\n")
@@ -119,7 +126,9 @@ pub fn all(renderer: &dyn Renderer) -> String {
         + &sheet(renderer, "shadow", SHADOW)
         + &sheet(renderer, "glow", GLOW)
         + &sheet(renderer, "key", KEY)
+        + &sheet(renderer, "relief", RELIEF)
         + &sheet(renderer, "linear shadow", &in_linear_light(SHADOW))
         + &sheet(renderer, "linear glow", &in_linear_light(GLOW))
         + &sheet(renderer, "linear key", &in_linear_light(KEY))
+        + &sheet(renderer, "linear relief", &in_linear_light(RELIEF))
 }

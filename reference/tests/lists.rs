@@ -3,23 +3,18 @@
 
 mod common;
 
+use common::records::{convolutions, curves, one_step};
 use common::*;
 use reference::cases::{picture, sheet, style, texts::written};
 use reference::check::Answer;
 use reference::fault::{Fault, OF_LISTS};
-use reference::number::Number;
 use reference::print;
 use reference::random::Random;
 use reference::render::{redraw, render, Sheet};
-use reference::step::{Input, Kind, Step};
+use reference::step::Step;
 use reference::text::{read, read_steps, steps_of, Limits, Reading, EARLIER, LIMITS, LONGEST_TEXT};
-use reference::transfer::Transfer::{self, Discrete, Identity, Linear, Table};
 
 const LINE: &str = "lumalpha\t0\t0\t1\t1\tsrc\tsrgb\n";
-
-fn one_step() -> Step {
-    steps("lumalpha 0 0 1 1 src\n").remove(0)
-}
 
 /// A list of records that no text here has.
 fn list(records: usize) -> Vec<Step> {
@@ -107,48 +102,6 @@ fn long_list(fault: Fault) -> Vec<u8> {
     [64, 0, 65, 66].map(answer).into()
 }
 
-/// A step of component transfer, its numbers all 0.5 and as many as it says, 17 a channel at most.
-fn curve(transfers: [Transfer; 4]) -> Step {
-    let count = transfers.iter().map(|transfer| transfer.numbers().1.min(17)).sum();
-    let numbers = vec![Number::Decimal(5_000); count];
-    Step { kind: Kind::Curve(transfers), inputs: vec![Input::Source], numbers, ..one_step() }
-}
-
-/// Records of component transfer as step 1, and the number and place of what is said of each.
-fn curves(fault: Fault) -> Vec<(Answer, Answer)> {
-    let red = |red: Transfer| curve([red, Identity, Identity, Identity]);
-    let first = |record: Step, number: u32| {
-        let numbers = [&[Number::Single(number)], &record.numbers[1..]].concat();
-        Step { numbers, ..record }
-    };
-    let right = [red(Table(1)), red(Table(16)), curve([Discrete(1), Discrete(16), Linear, Table(16)])];
-    let counts = [
-        red(Table(0)),
-        red(Table(17)),
-        red(Discrete(0)),
-        red(Discrete(17)),
-        curve([Identity, Discrete(0), Identity, Identity]),
-        curve([Linear, Table(16), Table(17), Identity]),
-        curve([Identity, Identity, Identity, Table(0)]),
-        // A count that nobody may walk.
-        red(Table(1_000_000_000_000)),
-        red(Table(usize::MAX)),
-        // Before any number of the step, also of a channel before it, and before the region.
-        first(red(Table(17)), 0x7fc0_0000),
-        first(curve([Linear, Identity, Identity, Discrete(17)]), 0x7fc0_0000),
-        Step { region: region(1, 0, 1, 1), ..red(Discrete(17)) },
-    ];
-    let input = Step { inputs: vec![Input::Layer(1)], ..red(Table(0)) };
-    let below = first(red(Table(2)), 0xbf80_0000);
-    let answer = |record: &Step| {
-        let steps = [one_step(), record.clone()];
-        render(Sheet::whole(1, 1, &steps), &[0; 4], &mut [0; 8], &mut [0; 8], fault)
-    };
-    let all = right.iter().map(|record| (answer(record), Answer::DONE));
-    let all = all.chain(counts.iter().map(|record| (answer(record), Answer::refused(16, 1))));
-    all.chain([(answer(&input), Answer::refused(7, 1)), (answer(&below), Answer::refused(9, 1))]).collect()
-}
-
 fn all_right(fault: Fault) -> bool {
     let same = |all: Vec<(Said, Said)>| all.into_iter().all(|(said, right)| said == right);
     let drawn = counted(fault);
@@ -156,6 +109,7 @@ fn all_right(fault: Fault) -> bool {
         && same(records(fault))
         && same(fifteen_first(fault))
         && curves(fault).into_iter().all(|(said, right)| said == right)
+        && convolutions(fault).into_iter().all(|(said, right)| said == right)
         && drawn.chunks(2).all(|two| two == &drawn[..2])
 }
 
@@ -184,6 +138,14 @@ fn a_list_counts_by_its_first_records() {
 #[test]
 fn counts_of_entries() {
     for (said, right) in curves(Fault::None) {
+        assert_eq!(said, right);
+    }
+}
+
+/// "17, place step, for a bad order .. or target, after 7."
+#[test]
+fn orders_and_targets() {
+    for (said, right) in convolutions(Fault::None) {
         assert_eq!(said, right);
     }
 }

@@ -35,6 +35,9 @@ fn a_difference_is_found() {
         Fault::TableDown,
         Fault::AbsentIsSrgb,
         Fault::CurveDown,
+        Fault::KernelNotTurned,
+        Fault::NegativeDivisorDown,
+        Fault::WrapAsDuplicate,
     ];
     for fault in faults {
         let differs = |sheet: &super::sheets::Sheet| same::rendered(&Desk::new(64, &sheet.steps, &source), &Second(fault), &Plain).is_err();

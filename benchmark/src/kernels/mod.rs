@@ -1,5 +1,6 @@
 //! The names of crate `kernels`. A slice is a pointer and a length; the contracts stand in crates/kernels/src.
 mod canvas;
+pub mod convolve;
 mod steps;
 pub mod table;
 

@@ -1,7 +1,10 @@
 //! What is measured: each kernel over a whole picture, as a step would call it.
 use super::canvas::{Canvas, HALF, SATURATION};
+use super::convolve::Convolution;
+use crate::calls::sheets::{GENERAL, SHARPEN, SOFT_3, SOFT_5};
 use crate::kernels;
 use crate::plain::space::{Conversion, Space};
+use std::cell::RefCell;
 use std::hint::black_box;
 
 pub struct Step {
@@ -92,6 +95,14 @@ fn curve_plainly(c: &mut Canvas) {
     }
 }
 
+/// As a step works it: the rows under the kernel are copied to lines, then summed.
+fn convolve(c: &mut Canvas, kernel: &RefCell<Convolution>) {
+    let mut kernel = kernel.borrow_mut();
+    for (y, dst) in c.out.chunks_exact_mut(4 * c.side).enumerate() {
+        kernel.row(&c.a, c.side, y, dst);
+    }
+}
+
 /// Three passes along rows, eight rows at a time, then three down. The result is the second picture of `pair`.
 fn blur(c: &mut Canvas, d: usize) {
     let (side, row) = (c.side, 4 * c.side);
@@ -153,6 +164,10 @@ pub fn all() -> Vec<Step> {
     steps.push(step("conversion to sRGB", None, |c| convert(c, false)));
     steps.push(step("conversion to sRGB, plain version", None, |c| convert_plainly(c, Space::Srgb)));
     steps.push(step("table of a conversion", None, |c| kernels::prepare_convert(true, &mut c.to_linear)));
+    for (name, fields) in [("3x3", SOFT_3), ("5x5", SOFT_5), ("3x3 general", GENERAL), ("sharpen", SHARPEN)] {
+        let kernel = RefCell::new(Convolution::new(fields));
+        steps.push(step(format!("conv {name}"), None, move |c| convolve(c, &kernel)));
+    }
     for d in [3, 10, 60] {
         steps.push(step(format!("blur, d = {d}"), 16.0, move |c| blur(c, d)));
     }

@@ -22,6 +22,10 @@ fn reach(work: &Work, rect: Rect) -> Rect {
             let [x, y] = radii.map(|r| r as i32);
             rect.grown(x, x, y, y)
         }
+        Work::Convolve(ref convolution) => {
+            let [left, right, above, below] = convolution.spread();
+            rect.grown(left, right, above, below)
+        }
         _ => rect,
     }
 }

@@ -2,6 +2,7 @@
 use super::arith::Arithmetic;
 use super::blur::Blur;
 use super::composite;
+use super::convolve::{Convolution, Lines};
 use super::curve::{Curve, Maps};
 use super::inputs::Inputs;
 use super::lines;
@@ -71,6 +72,13 @@ fn merge(inputs: &Inputs, all: &[Input], rect: Rect, out: &mut [u8]) {
     }
 }
 
+fn convolve(inputs: &Inputs, input: Input, convolution: &Convolution, rect: Rect, out: &mut [u8]) {
+    let mut lines = Lines::new(convolution, inputs, input, rect);
+    for (y, dst) in rows(out, inputs.width, rect) {
+        convolution.kernel.row(lines.at(y), dst);
+    }
+}
+
 pub fn draw(step: &Step, rect: Rect, inputs: &Inputs, out: &mut [u8], scratch: &mut [u8]) {
     if rect.is_empty() {
         return;
@@ -103,5 +111,6 @@ pub fn draw(step: &Step, rect: Rect, inputs: &Inputs, out: &mut [u8], scratch: &
             two(inputs, [input(0), input(1)], rect, out, |a, b, dst| arithmetic.row(a, b, dst));
         }
         Work::Merge => merge(inputs, &step.inputs, rect, out),
+        Work::Convolve(ref convolution) => convolve(inputs, input(0), convolution, rect, out),
     }
 }

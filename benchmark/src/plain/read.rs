@@ -1,4 +1,5 @@
 //! Steps from lines of text. The lines are trusted: the benchmark's sheets are constants, and a malformed one stops it.
+use super::convolve;
 use super::curve;
 use super::rect::Rect;
 use super::space::{Conversion, Space};
@@ -76,6 +77,7 @@ fn work(kind: &str, numbers: &[&str]) -> Work {
         "xor" => Work::Composite(Operator::Xor),
         "arith" => Work::Arithmetic(std::array::from_fn(unit)),
         "merge" => Work::Merge,
+        "conv" => Work::Convolve(Box::new(convolve::convolution(numbers, units))),
         _ => panic!("no such kind: {kind}"),
     }
 }

@@ -1,4 +1,5 @@
 //! A step as it is drawn: its numbers are whole pixels, units of 1/65,536 or bytes.
+use super::convolve::Convolution;
 use super::curve::Maps;
 use super::rect::Rect;
 use super::space::Space;
@@ -32,6 +33,7 @@ pub enum Work {
     Composite(Operator),
     Arithmetic([i64; 4]),
     Merge,
+    Convolve(Box<Convolution>),
 }
 
 pub struct Step {

@@ -1,5 +1,7 @@
 //! The plain version against the second program, byte for byte.
+use super::convolve::convolution;
 use super::curve::{self, Curve};
+use super::kernel::{Kernel, Numbers};
 use super::space::{Conversion, Space};
 use super::{units, Plain};
 use crate::calls::{Answer, Call, Region, Renderer};
@@ -172,5 +174,67 @@ fn large_curves() {
         let first = format!("curve\t0\t0\t300\t290\tsrc\t{maps}{space}\n");
         let steps = format!("{first}curve\t3\t0\t290\t290\t0\t{maps}\ncurve\t0\t1\t300\t280\talpha\t{maps}\n");
         same(&case(&mut random, 300, 290, steps));
+    }
+}
+
+/// A line of convolution: orders, values, divisor, bias, target, choices.
+fn conv(random: &mut Random, [columns, rows]: [usize; 2], value: impl Fn(&mut Random) -> String, numbers: [&str; 2]) -> String {
+    let values: Vec<String> = (0..columns * rows).map(|_| value(random)).collect();
+    let (across, down) = (random.below(columns), random.below(rows));
+    let (preserve, edge) = (random.pick(&["true", "false"]), random.pick(&["duplicate", "wrap", "none"]));
+    let [divisor, bias] = numbers;
+    format!("{columns}\t{rows}\t{}\t{divisor}\t{bias}\t{across}\t{down}\t{preserve}\t{edge}", values.join("\t"))
+}
+
+/// Every order, with values of every size: sums of 16 bits and of 64, divisors of both signs, on small canvases and large ones.
+#[test]
+fn every_kernel() {
+    let mut random = Random::new(11);
+    for orders in (1..=5).flat_map(|c| (1..=5).map(move |r| [c, r])) {
+        for round in 0..24 {
+            let most = [2, 5, 10, 256][round % 4];
+            let whole = move |random: &mut Random| random.within(-most, most).to_string();
+            let part = |random: &mut Random| format!("{}.{:04}", random.within(-9, 9), random.below(10_000));
+            let divisor = random.pick(&["", "", "1", "-1", "2", "3", "-3", "9", "16", "-61", "256", "0.5", "-0.25", "7.3333"]);
+            let bias = random.pick(&["0", "0", "0.5", "-0.25", "256"]);
+            let kernel = if round % 6 == 5 {
+                conv(&mut random, orders, part, [divisor, bias])
+            } else {
+                conv(&mut random, orders, whole, [divisor, bias])
+            };
+            let longest = if round == 0 { 300 } else { 9 };
+            let (width, height) = (1 + random.below(longest), 1 + random.below(longest));
+            let step::Region { x, y, width: w, height: h } = region(&mut random, width, height);
+            let (input, space) = (random.pick(&["src", "alpha"]), random.pick(&["", "\tlinear", "\tsrgb"]));
+            let steps = format!("conv\t{x}\t{y}\t{w}\t{h}\t{input}\t{kernel}{space}\n");
+            same(&case(&mut random, width, height, steps));
+        }
+    }
+}
+
+/// Which kernels are summed in 16 bits, and that each divisor of these divides exactly.
+#[test]
+fn small_kernels() {
+    let is_small = |fields: &str| convolution(&fields.split(' ').collect::<Vec<_>>(), units).kernel.is_small();
+    for small in [
+        "1 1 1  0 0 0 true none",
+        "3 3 1 2 1 2 4 2 1 2 1  0 1 1 true none",
+        "3 3 0.25 0.5 0.25 0.5 1 0.5 0.25 0.5 0.25  0 1 1 true none",
+        "3 3 0 -1 0 -1 5 -1 0 -1 0  0 1 1 true none",
+        "5 5 1 4 6 4 1 4 16 24 16 4 6 24 36 24 6 4 16 24 16 4 1 4 6 4 1  0 2 2 true none",
+        "1 1 -0.5 -0.5 0 0 0 true none",
+    ] {
+        assert!(is_small(small), "{small}");
+    }
+    for general in ["1 1 1  0.5 0 0 true none", "1 1 0.3333 0.5 0 0 0 true none", "2 1 256 255  0 0 0 true none"] {
+        assert!(!is_small(general), "{general}");
+    }
+    let alphas: Vec<u8> = (0..=255).flat_map(|a| [0, a / 2, a, a]).collect();
+    for (divisor, value) in (1..=257).flat_map(|d| [(d, 1), (d, 85), (d, 200)]) {
+        let numbers = Numbers { values: vec![65_536 * value], divisor: Some(65_536 * divisor), bias: 0 };
+        let (kernel, mut drawn) = (Kernel::new([1, 1], [0, 0], false, &numbers), alphas.clone());
+        kernel.row(std::slice::from_ref(&alphas), &mut drawn);
+        let right = |c: &u8| ((2 * i64::from(*c) * value + divisor) / (2 * divisor)).min(255) as u8;
+        assert_eq!(drawn, alphas.iter().map(right).collect::<Vec<u8>>(), "{value} by {divisor}");
     }
 }

@@ -35,6 +35,7 @@
 //! | `over`, `in`, `out`, `atop`, `xor` | top, bottom | |
 //! | `arith` | input, input, k1 to k4 | −256 to 256 |
 //! | `merge` | 1 to 4 inputs, bottom first | |
+//! | `conv` | input, order across, order down, the kernel's values by rows, divisor or an empty field, bias, target across, target down, `true` or `false`, `duplicate`, `wrap` or `none` | orders 1 to 5; −256 to 256; the target inside the kernel |
 //!
 //! The source is sRGB. Each layer is kept in its step's space, and its bytes in the workspace are in it: a step of the
 //! other space reads them converted, and so must whoever shows them. With `srgb` on every step nothing is converted;
@@ -60,13 +61,28 @@
 //! # Ok::<(), twillgoose::Refusal>(())
 //! ```
 //!
-//! Whole fields (the region, a step's number, a flood's bytes, n) have 1 to 4 digits, no sign and no leading zeros. A number
-//! is an optional minus, 1 to 5 digits without leading zeros, optionally a point and 1 to 4 digits; or `x` and the eight
-//! lower-case hexadecimal digits of a single. It is checked as it stands, then rounded to the nearest 1/65,536. A single
-//! halfway between two goes to the even one; no decimal lies there. A [`Refusal`] says what is wrong with a call, and
-//! changes no byte that was lent. A sixty-fifth step line, a merge of 0 or 5 inputs, an n of 0 or above 16 and another word
-//! for a transfer or for the space are not of the form: they are refused as lines. Refusals 16, of a step record with a table of 0
-//! or more than 16 entries, and 21, of readers of lists of step records, cannot be met here: steps are lines.
+//! A convolution turns its kernel half round and lays it over each pixel, so that the target's column and row come to lie on
+//! it. It divides the sum by the divisor (where that field is empty by the sum of the values, or by 1 where that is 0) and adds
+//! the bias times the pixel's own alpha. With `true` it works on unpremultiplied colours and keeps alpha. The edge mode says
+//! what is read beyond the canvas.
+//!
+//! ```
+//! // Each pixel sharpened against those beside it: 3 times 100 less 100 and 120, and so on.
+//! let step = "conv\t0\t0\t3\t1\tsrc\t3\t1\t-1\t3\t-1\t\t0\t1\t0\tfalse\tduplicate\tsrgb\n";
+//! let (mut workspace, mut scratch) = ([0; 12], [0; 24]);
+//! twillgoose::render(3, 1, step, &[0, 0, 0, 100, 0, 0, 0, 120, 0, 0, 0, 140], &mut workspace, &mut scratch)?;
+//! assert_eq!(workspace, [0, 0, 0, 80, 0, 0, 0, 120, 0, 0, 0, 160]);
+//! # Ok::<(), twillgoose::Refusal>(())
+//! ```
+//!
+//! Whole fields (the region, a step's number, a flood's bytes, n, orders, targets) have 1 to 4 digits, no sign and no
+//! leading zeros. A number is an optional minus, 1 to 5 digits without leading zeros, optionally a point and 1 to 4
+//! digits; or `x` and the eight lower-case hexadecimal digits of a single. It is checked as it stands, then rounded to
+//! the nearest 1/65,536. A single halfway between two goes to the even one; no decimal lies there. A [`Refusal`] says
+//! what is wrong with a call, and changes no byte that was lent. A sixty-fifth step line, a merge of 0 or 5 inputs, an n
+//! of 0 or above 16, an order of 0 or above 5 and another word for a transfer, for a convolution's choices or for the
+//! space are not of the form: they are refused as lines. Refusals 16, of a step record with a table of 0 or more than 16
+//! entries, and 21, of readers of lists of step records, cannot be met here: steps are lines.
 
 #![warn(missing_docs)]
 
@@ -167,7 +183,7 @@ pub fn layer(width: usize, height: usize, steps: usize, n: usize, workspace: &[u
 
 /// The rules that this page describes. The number rises whenever an answer or a pixel changes: compare pictures only if
 /// both were drawn under the same number.
-pub const RULES: u64 = 6;
+pub const RULES: u64 = 7;
 
 /// The number of the rules that the library was built with, [`RULES`] where page and library belong together.
 pub fn rules() -> u64 {

@@ -33,10 +33,12 @@ pub enum Refusal {
     AboveAlpha(usize),
     /// 15: this line, counted from 1, is not of the form.
     Line(usize),
+    /// 17: the target of this step's convolution is not inside its kernel, or its divisor is given and rounds to 0.
+    Kernel(usize),
 }
 
 impl Refusal {
-    /// The refusal's number, 1 to 15; 12 is retired and never given.
+    /// The refusal's number, 1 to 15 or 17; 12 is retired and never given.
     pub fn number(self) -> u8 {
         match self {
             Refusal::Canvas => 1,
@@ -53,6 +55,7 @@ impl Refusal {
             Refusal::OutsideCanvas(_) => 13,
             Refusal::AboveAlpha(_) => 14,
             Refusal::Line(_) => 15,
+            Refusal::Kernel(_) => 17,
         }
     }
 
@@ -66,7 +69,8 @@ impl Refusal {
             | Refusal::NotWhole(place)
             | Refusal::OutsideCanvas(place)
             | Refusal::AboveAlpha(place)
-            | Refusal::Line(place) => place,
+            | Refusal::Line(place)
+            | Refusal::Kernel(place) => place,
             _ => 0,
         }
     }
@@ -89,6 +93,7 @@ impl Display for Refusal {
             Refusal::OutsideCanvas(step) => write!(out, "step {step}: the region leaves the canvas"),
             Refusal::AboveAlpha(pixel) => write!(out, "pixel {pixel}: a colour exceeds its alpha"),
             Refusal::Line(line) => write!(out, "line {line} is not of the form"),
+            Refusal::Kernel(step) => write!(out, "step {step}: the target is outside the kernel, or the divisor is 0"),
         }
     }
 }
@@ -114,7 +119,8 @@ pub(crate) fn refused(number: u64, place: u64) -> Option<Refusal> {
         13 => Refusal::OutsideCanvas(place),
         14 => Refusal::AboveAlpha(place),
         15 => Refusal::Line(place),
-        _ => unreachable!("the library's numbers are 0 to 11 and 13 to 15"),
+        17 => Refusal::Kernel(place),
+        _ => unreachable!("the library's numbers are 0 to 11, 13 to 15 and 17"),
     };
     Some(refusal)
 }
@@ -125,7 +131,7 @@ mod tests {
 
     #[test]
     fn numbers_and_places_come_back() {
-        for number in (1..=15).filter(|number| *number != 12) {
+        for number in (1..=17).filter(|number| ![12, 16].contains(number)) {
             let refusal = refused(number, 9).expect("refused");
             assert_eq!(u64::from(refusal.number()), number);
             assert_eq!(refusal.place(), if number <= 6 { 0 } else { 9 });

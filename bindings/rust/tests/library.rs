@@ -175,6 +175,69 @@ fn refused_curves() {
     assert!(rendered(1, 1, &format!("curve 0 0 1 1 src {}\n", many(16)), &[0; 4]).is_ok());
 }
 
+/// A kernel 1 0 0 takes the pixel after the target's: turned half round it is 0 0 1. Each pixel less the next: 96 48 −32 at 32,
+/// lowered to alpha; straight 170 85 −106 at 128; with a quarter of the own alpha as the bias 202 117 −74.
+#[test]
+fn convolutions() {
+    let row = alphas(&[10, 20, 30, 40]);
+    let moved = |target: &str, edge: &str| {
+        last_layer(4, 1, &format!("conv 0 0 4 1 src 3 1 1 0 0  0 {target} 0 false {edge}\n"), &row)
+    };
+    assert_eq!(moved("1", "none"), alphas(&[20, 30, 40, 0]));
+    assert_eq!(moved("0", "none"), alphas(&[30, 40, 0, 0]));
+    assert_eq!(moved("0", "wrap"), alphas(&[30, 40, 10, 20]));
+    assert_eq!(moved("0", "duplicate"), alphas(&[30, 40, 40, 40]));
+    let two = [0x80, 0x40, 0x20, 0x80, 0x20, 0x10, 0x40, 0x60];
+    let less = |rest: &str| last_layer(2, 1, &format!("conv 0 0 2 1 src 2 1 -1 1  {rest} none\n"), &two);
+    assert_eq!(less("0 0 0 false"), [0x20, 0x20, 0, 0x20, 0x20, 0x10, 0x40, 0x60]);
+    assert_eq!(less("0 0 0 true"), [0x55, 0x2b, 0, 0x80, 0x20, 0x10, 0x40, 0x60]);
+    assert_eq!(less("0.25 0 0 true"), [0x65, 0x3b, 0, 0x80, 0x29, 0x19, 0x49, 0x60]);
+    let halves = |kernel: &str| {
+        last_layer(4, 1, &format!("conv 0 0 4 1 src {kernel} 0 0 0 false none\n"), &alphas(&[1, 3, 5, 255]))
+    };
+    assert_eq!(halves("1 1 1 2"), alphas(&[1, 2, 3, 128]));
+    assert_eq!(halves("1 1 -1 -2"), alphas(&[1, 2, 3, 128]));
+}
+
+/// With none the rectangle grows by what the kernel has behind its target, to the left, and before it, to the right; with wrap
+/// it is the whole canvas.
+#[test]
+fn redrawn_convolutions() {
+    for (target, edge, count) in
+        [("0", "none", 4), ("4", "none", 5), ("2", "none", 5), ("2", "wrap", 8), ("0", "duplicate", 8)]
+    {
+        let steps = format!("conv 0 0 8 1 src 5 1 1 2 3 4 5  0 {target} 0 false {edge}\n");
+        let old = alphas(&[9, 0, 0, 200, 0, 0, 30, 0]);
+        let mut new = old.clone();
+        new[15] = 255;
+        let mut workspace = rendered(8, 1, &steps, &old).expect("accepted");
+        let rect = Rect { x: 3, y: 0, width: 1, height: 1 };
+        let worked = redraw(8, 1, lines(&steps), rect, &new, &mut workspace, &mut vec![1; scratch_len(8, 1)]);
+        assert_eq!(worked, Ok(count), "{target} {edge}");
+        assert_eq!(workspace, rendered(8, 1, &steps, &new).expect("accepted"));
+    }
+}
+
+#[test]
+fn refused_convolutions() {
+    let refused = |rest: &str| rendered(1, 1, &format!("conv 0 0 1 1 src {rest}\n"), &[0; 4]).expect_err("refused");
+    assert_eq!(refused("1 1 x7fc00000 0 0 1 0 false none"), Refusal::Kernel(0));
+    assert_eq!(refused("1 1 x7fc00000 0 0 0 0 false none"), Refusal::NotFinite(0));
+    assert_eq!(refused("1 1 1 0 256.0001 0 0 false none"), Refusal::OutOfRange(0));
+    assert_eq!(refused("1 1 1 x37000000 0 0 0 false none"), Refusal::Kernel(0));
+    let many = |order: usize| format!("{order} 1{}  0 0 0 false none", " 1".repeat(order));
+    for wrong in [
+        many(0),
+        many(6),
+        "1 1 1  0 0 0 yes none".into(),
+        "1 1 1  0 0 0 true mirror".into(),
+        "1 1 1 1  0 0 true wrap".into(),
+    ] {
+        assert_eq!(refused(&wrong), Refusal::Line(1), "{wrong}");
+    }
+    assert!(rendered(1, 1, &format!("conv 0 0 1 1 src {}\n", many(5)), &[0; 4]).is_ok());
+}
+
 /// 64 steps on a row of four pixels: the alpha, then moved right and left in turn.
 fn long_steps(count: usize) -> String {
     let moved = |n: usize| format!("offset 0 0 4 1 {} {} 0\n", n - 1, [-1, 1][n % 2]);

@@ -39,6 +39,6 @@ module _ (c : Context) (r : Rect) (new : Picture) (src d d′ : List ℕ) (D : D
   pub input-later : (i : Input) → allowed? (c .n) i ≡ true → shown c src d′ i ≡ shown c src d i
   input-later = drawn-agree c r new src d d′ D .same
 
-  pub work-later : (k : Shape) (v : List Fixed) → Earlier (c .n) (reads k)
+  pub work-later : (k : Shape) (v : List Fixed) → Earlier (c .n) (reads (c .w) (c .h) k)
       → workOf (c .w) (c .h) k v (shown c src d′) ≡ workOf (c .w) (c .h) k v (shown c src d)
   work-later k v e = work-same (c .w) (c .h) (c .n) k v _ _ e (drawn-agree c r new src d d′ D)

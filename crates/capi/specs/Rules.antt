@@ -3,4 +3,4 @@ use Prim.Native.Nat.{ℕ}
 
 -- the number at the head of RULES.md, which rises whenever an answer or a pixel changes
 abbrev pub rulesNumber : ℕ
-rulesNumber = 6
+rulesNumber = 7

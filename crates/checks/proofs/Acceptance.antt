@@ -1,15 +1,21 @@
 -- From an accepted answer to what the renderer may go by. Assumes nothing.
 use Prim.Native.Nat.{ℕ, zero, suc, _+_, _*_, _≤_, _<_}
-use mathlib.Core.Path.{_≡_, refl, ap, _∙_}
-use mathlib.Core.Bool.{Bool, true, false, cond, _&&_}
+use mathlib.Core.Path.{_≡_, refl, sym, ap, _∙_}
+use mathlib.Core.Bool.{Bool, true, false, cond, not, _&&_, false≢true}
 use mathlib.Core.Logic.{inl, inr, ⊎-elim}
 use mathlib.Core.List.{List}
 use native.Mathlib.Omega.{arith}
 use lib.Dec.{ltb, leb, eqb}
 use lib.ListN.{getD}
-use borrow.Author.Tests.{ltb-true, leb-true, eqb-true}
+use lib.IntN.{pos}
+use borrow.Author.Tests.{ltb-true, lt-ltb, leb-true, eqb-true, eq-eqb}
 use Rattle.number.specs.declared.Range.the-variants as R
-use Rattle.number.specs.Number.{limitOf}
+use Rattle.number.specs.Number.{limitOf, value}
+use Rattle.number.specs.declared.Fixed.{Fixed}
+use Rattle.pixel.specs.declared.Convolution.{Convolution}
+use Rattle.pixel.specs.Convolve.{sum, cells, orOne, divisorOf}
+use Rattle.pixel.proofs.SignedSums.{above, below, diff-sub}
+use Rattle.pixel.proofs.Convolved.{or-one}
 use Rattle.filter.specs.declared.Kind.{Kind}
 use Rattle.filter.specs.declared.Kind.the-variants as K
 use Rattle.filter.specs.declared.Pass.{Pass}
@@ -23,18 +29,27 @@ use Rattle.filter.specs.Bytes.{size}
 use Rattle.filter.specs.Signature.{signatureOf, numbersOf, rangeAt}
 use Rattle.filter.specs.Kinds.{noValue, valueAt}
 use Rattle.filter.specs.Steps.{unitsAt, shiftOf, pixelsOf, listed, valueOf, valuesOf, shapeOf, shaped, resolved, stepAt}
-use Rattle.filter.specs.Checks.{merges?, inputs?, tables?, onCanvas?, stepAnswer, stepsAnswer, canvas?, count?, sizesAnswer, rectangleAnswer}
-use Rattle.filter.specs.Accepted.{OnCanvas, Canvas, Near, Ranged, mostOf, Measured, Numbered, Bounded, AcceptedStep, AcceptedSizes}
+use Rattle.filter.specs.Convolutions.{orders?, target?, convolution?, divisorPlace}
+use Rattle.filter.specs.Checks.{merges?, inputs?, tables?, kernel?, zero?, divides?, onCanvas?, stepAnswer, stepsAnswer, canvas?, count?, sizesAnswer, rectangleAnswer}
+use Rattle.filter.specs.Accepted.{OnCanvas, Canvas, Near, Ranged, mostOf, Measured, Divides, Numbered, Bounded, AcceptedStep, AcceptedSizes}
 use Rattle.filter.specs.Limits.{longestSide, mostSteps, mostNumbers}
 use Rattle.filter.proofs.UnitsInRange.{units-in-range}
 use Rattle.filter.proofs.AllowedCoefficients.{alike-range}
 use Rattle.filter.proofs.Earlier.{both-true, inputs-earlier}
+use Rattle.filter.proofs.FewNumbers.{orders-allowed, cells-few}
 use Rattle.filter.proofs.PassedChecks.{unless-accepted, first-accepted, step-accepted}
 
 listed-at : {A : Type 0} (f : ℕ → A) (d : A) (i n k : ℕ) → k < n → getD (listed f i n) k d ≡ f (i + k)
 listed-at f d i zero k l = absurd (omega arith)
 listed-at f d i (suc n) zero l = let e : i + 0 ≡ i = omega arith in rw e
 listed-at f d i (suc n) (suc k) l = let e : i + suc k ≡ suc i + k = omega arith in rw e (listed-at f d (suc i) n k (omega arith))
+
+-- units that are not 0
+zero-units : (f : Fixed) → not (zero? f) ≡ true → ¬ (value f ≡ pos 0)
+zero-units f e z =
+    let d = diff-sub (f .above) (f .below) .same in
+    let equal : f .above ≡ f .below = omega (arith, d, ap above z, ap below z) in
+    false≢true (sym (ap not (eq-eqb (f .above) (f .below) equal)) ∙ e)
 
 -- the numbers, by kind; also of a refused number, which counts as 0
 module _ (s : Step) where
@@ -81,25 +96,48 @@ module _ (s : Step) where
   ranged : (k : Kind) → s .kind ≡ k → Ranged (signatureOf k .numbers) (valuesOf s)
   ranged k e = record { above = λ i l. rw (value-at i l) (value-above k i e); below = λ i l. rw (value-at i l) (value-below k i e) }
 
-  bounded : merges? (signatureOf (s .kind)) ≡ true → tables? s ≡ true → Bounded (resolved s)
-  unfolding shaped Measured Numbered
-  bounded g t = record { shape = shape (s .kind) refl g t; values = values (s .kind) refl }
-    where
-      shape : (k : Kind) → s .kind ≡ k → merges? (signatureOf k) ≡ true → signatureOf k .tables ≡ true → Measured (shapeOf k s)
-      shape (K.Flood r g b) e m t = tt
-      shape K.Offset e m t = (near 0 e, near 1 e)
-      shape (K.Pass p) e m t = (small p 0 e, small p 1 e)
-      shape (K.Map k) e m t = t
-      shape (K.Pair p) e m t = tt
-      shape (K.Merge n) e m t = let t = both-true (leb 1 n) (leb n 4) m in (leb-true 1 n (t .0), leb-true n 4 (t .1))
+  -- the divisor of a convolution
+  given : (k : Convolution) → s .kind ≡ K.Convolve k → orders? k ≡ true → k .divided ≡ true → divides? s ≡ true → ¬ (value (valueAt (valuesOf s) (cells k)) ≡ pos 0)
+  given k e o d t z =
+      let few : cells k < mostNumbers = omega (arith, cells-few k (orders-allowed k o)) in
+      let at : divisorPlace k ≡ cells k = rw (d, o) in
+      let place : signatureOf (s .kind) .divisor ≡ cells k = ap (λ (x : Kind). signatureOf x .divisor) e ∙ at in
+      let count : numbersOf (s .kind) ≡ cells k + 2 = ap numbersOf e ∙ rw (d, o) in
+      let inside : ltb (cells k) (numbersOf (s .kind)) ≡ true = lt-ltb (cells k) (numbersOf (s .kind)) (omega (arith, count)) in
+      let some : not (zero? (unitsAt s (cells k))) ≡ true = rw (place, inside) at t in
+      let same : valueAt (valuesOf s) (cells k) ≡ unitsAt s (cells k) = value-at (cells k) few ∙ rw inside in
+      zero-units (unitsAt s (cells k)) some (ap value (sym same) ∙ z)
 
-      values : (k : Kind) → s .kind ≡ k → Numbered (shapeOf k s) (valuesOf s)
-      values (K.Flood r g b) e = tt
-      values K.Offset e = tt
-      values (K.Pass p) e = tt
-      values (K.Map m) e = ranged (K.Map m) e
-      values (K.Pair p) e = ranged (K.Pair p) e
-      values (K.Merge n) e = tt
+  divided : (k : Convolution) → s .kind ≡ K.Convolve k → convolution? k ≡ true → divides? s ≡ true → Divides k (valuesOf s)
+  unfolding divisorOf
+  divided k e c t = go (k .divided) refl
+    where
+      go : (b : Bool) → k .divided ≡ b
+          → ¬ (cond b (value (valueAt (valuesOf s) (cells k))) (orOne (sum (cells k) (λ i. value (valueAt (valuesOf s) i)))) ≡ pos 0)
+      go true d = given k e (both-true (orders? k) (target? k) c .0) d t
+      go false d = or-one (sum (cells k) (λ i. value (valueAt (valuesOf s) i)))
+
+  bounded : merges? (signatureOf (s .kind)) ≡ true → tables? s ≡ true → kernel? s ≡ true → divides? s ≡ true → Bounded (resolved s)
+  unfolding shaped Measured Numbered
+  bounded g t c d = record { shape = shape (s .kind) refl g t c; values = values (s .kind) refl c }
+    where
+      shape : (k : Kind) → s .kind ≡ k → merges? (signatureOf k) ≡ true → signatureOf k .tables ≡ true → signatureOf k .kernel ≡ true → Measured (shapeOf k s)
+      shape (K.Flood r g b) e m t c = tt
+      shape K.Offset e m t c = (near 0 e, near 1 e)
+      shape (K.Pass p) e m t c = (small p 0 e, small p 1 e)
+      shape (K.Map k) e m t c = t
+      shape (K.Pair p) e m t c = tt
+      shape (K.Merge n) e m t c = let t = both-true (leb 1 n) (leb n 4) m in (leb-true 1 n (t .0), leb-true n 4 (t .1))
+      shape (K.Convolve k) e m t c = c
+
+      values : (k : Kind) → s .kind ≡ k → signatureOf k .kernel ≡ true → Numbered (shapeOf k s) (valuesOf s)
+      values (K.Flood r g b) e c = tt
+      values K.Offset e c = tt
+      values (K.Pass p) e c = tt
+      values (K.Map m) e c = ranged (K.Map m) e
+      values (K.Pair p) e c = ranged (K.Pair p) e
+      values (K.Merge n) e c = tt
+      values (K.Convolve k) e c = (ranged (K.Convolve k) e, divided k e c d)
 
 region-on : (w h : ℕ) (g : Region) → onCanvas? w h g ≡ true → OnCanvas w h g
 region-on w h g e =
@@ -112,8 +150,8 @@ unfolding inputs?
 accepted-step w h n s e =
     let p = step-accepted w h n s e in
     record {
-      inputs = inputs-earlier n s (p .inputs);
-      numbers = bounded s (both-true (merges? (signatureOf (s .kind))) _ (p .inputs) .0) (p .tables);
+      inputs = inputs-earlier w h n s (p .inputs);
+      numbers = bounded s (both-true (merges? (signatureOf (s .kind))) _ (p .inputs) .0) (p .tables) (p .kernel) (p .divides);
       region = record { right = p .across; bottom = p .down };
     }
 

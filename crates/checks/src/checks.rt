@@ -1,4 +1,4 @@
-// Checks 7, 16, 8 to 11 and 13: the steps, in the order of checking.
+// Checks 7, 16, 17, 8 to 11 and 13: the steps, in the order of checking.
 use super::answers::first;
 use super::sizes::on_canvas;
 use filter::Answer;
@@ -16,7 +16,22 @@ use number::Judged;
 use number::judge;
 use window::both;
 ghost use mathlib.Core.Path.{_≡_};
-ghost use Rattle.filter.specs.Checks.{unless, orElse, allowed?, merges?, inputs?, tables?, numberAnswer, numbersAnswer, onCanvas?, stepAnswer};
+ghost use Rattle.number.specs.Number.{fixedOf};
+ghost use Rattle.filter.specs.Checks.{
+  unless,
+  orElse,
+  allowed?,
+  merges?,
+  inputs?,
+  tables?,
+  kernel?,
+  zero?,
+  divides?,
+  numberAnswer,
+  numbersAnswer,
+  onCanvas?,
+  stepAnswer,
+};
 ghost use Rattle.filter.specs.Valid.{FloodBytes};
 
 // 7: the source, or an earlier layer.
@@ -62,6 +77,15 @@ fn tables_allowed(step: Step) -> bool
     signature.tables
 }
 
+// 17: and so are orders and target.
+fn kernel_allowed(step: Step) -> bool
+    ensures { λ o. ⌜ o ≡ kernel? step ⌝ }
+{
+    let kind = step.kind;
+    let signature = signature_of(kind);
+    signature.kernel
+}
+
 // 8 to 11, of a judged number.
 fn fault_answer(n: usize, fault: Fault) -> Answer
     ensures { λ o. ⌜ o ≡ numberAnswer n (Judged.Refused fault) ⌝ }
@@ -99,6 +123,39 @@ fn check_numbers(n: usize, step: Step) -> Answer
     answer
 }
 
+// Whether a number is of 0 units; a refused one counts as 0.
+fn is_zero(number: Judged) -> bool
+    ensures { λ o. ⌜ o ≡ zero? (fixedOf number) ⌝ }
+{
+    match number {
+        Judged::Accepted(units) => units.above == units.below,
+        Judged::Refused(_) => true,
+    }
+}
+
+fn divides(step: Step) -> bool
+    ensures { λ o. ⌜ o ≡ divides? step ⌝ }
+{
+    let kind = step.kind;
+    let signature = signature_of(kind);
+    let numbers = signature.numbers;
+    let i = signature.divisor;
+    if i < number_count(numbers) {
+        return !is_zero(judge(range_in(numbers, i), number_at(step, i)));
+    }
+    true
+}
+
+// 17: a divisor that is given is not 0.
+fn check_divisor(n: usize, step: Step) -> Answer
+    ensures { λ o. ⌜ o ≡ unless (divides? step) (Answer.Kernel n) Answer.Done ⌝ }
+{
+    if divides(step) {
+        return Answer::Done;
+    }
+    Answer::Kernel(n)
+}
+
 fn check_region(width: usize, height: usize, n: usize, region: Region) -> Answer
     ensures { λ o. ⌜ o ≡ unless (onCanvas? width height region) (Answer.OutsideCanvas n) Answer.Done ⌝ }
 {
@@ -108,7 +165,7 @@ fn check_region(width: usize, height: usize, n: usize, region: Region) -> Answer
     Answer::OutsideCanvas(n)
 }
 
-// 7, then 16, then each number through 8 to 11, then 13. The numbers of a step that 7 or 16 refuses are not looked at.
+// 7, then 16, then 17, then each number through 8 to 11, then the divisor, then 13. The numbers of a step that 7, 16 or 17 refuses are not looked at.
 pub fn check_step(width: usize, height: usize, n: usize, step: Step) -> Answer
     ensures { λ o. ⌜ o ≡ stepAnswer width height n step ⌝ }
 {
@@ -118,9 +175,13 @@ pub fn check_step(width: usize, height: usize, n: usize, step: Step) -> Answer
     if !tables_allowed(step) {
         return Answer::TableSize(n);
     }
+    if !kernel_allowed(step) {
+        return Answer::Kernel(n);
+    }
     let numbers = check_numbers(n, step);
+    let divisor = check_divisor(n, step);
     let region = check_region(width, height, n, step.region);
-    first(numbers, region)
+    first(numbers, first(divisor, region))
 }
 
 // One step more. That a flood's colours are bytes its type says; who has the step by value can tell it.

@@ -14,14 +14,17 @@ use filter::Sheet;
 use filter::Shift;
 use filter::kinds::ahead_of;
 use filter::kinds::back_of;
+use pixel::Convolution;
+use pixel::Edge;
 ghost use mathlib.Core.Path.{_≡_};
-ghost use mathlib.Core.Bool.{cond};
+ghost use mathlib.Core.Bool.{true, cond};
 ghost use mathlib.Core.List.{[], _∷_, map};
-ghost use Prim.Native.Nat.{_≤_};
+ghost use Prim.Native.Nat.{_≤_, _<_};
 ghost use lib.ListN.{getD};
 ghost use Rattle.filter.specs.Rect.{canvasOf, empty, meet as met, join as joined};
 ghost use Rattle.filter.specs.Reach.{window, still, moved, grow};
-ghost use Rattle.filter.specs.Kinds.{sight, here, around, firstInputs, reads};
+ghost use Rattle.filter.specs.Kinds.{sight, here, around, firstInputs, kernelSight, sightAcross, sightDown, reads};
+ghost use Rattle.filter.specs.Convolutions.{convolution?};
 ghost use Rattle.filter.specs.Layers.{reached as reachedBy};
 ghost use Rattle.filter.specs.Accepted.{Within, Near, mostOf, Measured};
 ghost use Rattle.filter.specs.Limits.{longestSide};
@@ -120,10 +123,60 @@ fn reached_merge(n: usize, inputs: Inputs, changed: Rect, rects: [Rect; Sheet::S
     join_input(0 < n, a, second, changed, rects)
 }
 
+// How far a convolution looks back along a line of m places; t is its target.
+fn kernel_back(edge: Edge, m: usize, t: usize) -> usize
+    requires { ⌜ (m ≤ longestSide) × (t ≤ longestSide) ⌝ }
+    ensures { λ o. ⌜ (o ≡ kernelSight edge m 0 t .back) × (o ≤ longestSide) ⌝ }
+{
+    match edge {
+        Edge::Duplicate => m,
+        Edge::Wrap => m,
+        Edge::None => t,
+    }
+}
+
+// And ahead; n is its order.
+fn kernel_ahead(edge: Edge, m: usize, n: usize, t: usize) -> usize
+    requires { ⌜ t < n ⌝ }
+    ensures { λ o. ⌜ o ≡ kernelSight edge m n t .ahead ⌝ }
+{
+    match edge {
+        Edge::Duplicate => m,
+        Edge::Wrap => m,
+        Edge::None => n - 1 - t,
+    }
+}
+
+fn reached_convolve(
+    width: usize,
+    height: usize,
+    k: Convolution,
+    input: Input,
+    changed: Rect,
+    rects: [Rect; Sheet::STEPS],
+) -> Rect
+    requires { ⌜ AllWithin longestSide longestSide changed rects × (convolution? k ≡ true) × (width ≤ longestSide) × (height ≤ longestSide) ⌝ }
+    ensures { λ o. ⌜ o ≡ reachedBy (around input (sightAcross width k) (sightDown height k) ∷ []) (rectOf changed rects) ⌝ }
+{
+    let edge = k.edge;
+    let left = kernel_ahead(edge, width, k.columns, k.column);
+    let right = kernel_back(edge, width, k.column);
+    let up = kernel_ahead(edge, height, k.rows, k.row);
+    let down = kernel_back(edge, height, k.row);
+    let r = rect_at(input, changed, rects);
+    join(widen(r, left, right, up, down), none())
+}
+
 // What a change of the inputs can reach.
-fn reached(shape: Shape, changed: Rect, rects: [Rect; Sheet::STEPS]) -> Rect
-    requires { ⌜ Measured shape × AllWithin longestSide longestSide changed rects ⌝ }
-    ensures { λ o. ⌜ o ≡ reachedBy (reads shape) (rectOf changed rects) ⌝ }
+fn reached(
+    width: usize,
+    height: usize,
+    shape: Shape,
+    changed: Rect,
+    rects: [Rect; Sheet::STEPS],
+) -> Rect
+    requires { ⌜ Measured shape × AllWithin longestSide longestSide changed rects × (width ≤ longestSide) × (height ≤ longestSide) ⌝ }
+    ensures { λ o. ⌜ o ≡ reachedBy (reads width height shape) (rectOf changed rects) ⌝ }
 {
     match shape {
         Shape::Flood(_) => none(),
@@ -132,6 +185,7 @@ fn reached(shape: Shape, changed: Rect, rects: [Rect; Sheet::STEPS]) -> Rect
         Shape::Map(_, i) => join_input(true, i, none(), changed, rects),
         Shape::Pair(_, i, j) => reached_pair(i, j, changed, rects),
         Shape::Merge(n, inputs) => reached_merge(n, inputs, changed, rects),
+        Shape::Convolve(k, i) => reached_convolve(width, height, k, i, changed, rects),
     }
 }
 
@@ -144,11 +198,11 @@ pub fn damage_of(
     changed: Rect,
     rects: [Rect; Sheet::STEPS],
 ) -> Rect
-    requires { ⌜ Measured shape × AllWithin longestSide longestSide changed rects ⌝ }
-    ensures { λ o. ⌜ (o ≡ met (met (canvasOf width height) region) (reachedBy (reads shape) (rectOf changed rects))) × Within width height o ⌝ }
+    requires { ⌜ Measured shape × AllWithin longestSide longestSide changed rects × (width ≤ longestSide) × (height ≤ longestSide) ⌝ }
+    ensures { λ o. ⌜ (o ≡ met (met (canvasOf width height) region) (reachedBy (reads width height shape) (rectOf changed rects))) × Within width height o ⌝ }
 {
     meet(
         meet(canvas(width, height), region),
-        reached(shape, changed, rects),
+        reached(width, height, shape, changed, rects),
     )
 }

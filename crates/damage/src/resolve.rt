@@ -126,6 +126,7 @@ pub fn shape_of(step: Step) -> Shape
         Kind::Map(m) => Shape::Map(m, input_at(step, 0)),
         Kind::Pair(p) => Shape::Pair(p, input_at(step, 0), input_at(step, 1)),
         Kind::Merge(n) => Shape::Merge(n, inputs(step)),
+        Kind::Convolve(k) => Shape::Convolve(k, input_at(step, 0)),
     }
 }
 

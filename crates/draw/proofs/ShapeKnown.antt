@@ -29,11 +29,12 @@ others-kindless (S.Pass p i dx dy) o = miss others 2 tt o
 others-kindless (S.Map m i) o = miss others 3 tt o
 others-kindless (S.Pair p i j) o = miss others 4 tt o
 others-kindless (S.Merge c is) o = tt
+others-kindless (S.Convolve k i) o = miss others 6 tt o
 
 module _ (k l : Shape) (e : k ≡ l) where
   -- what was checked of it
-  pub checked-known : (n : ℕ) (v : List Fixed) → Earlier n (reads k) → Measured k → Numbered k v → Earlier n (reads l) × Measured l × Numbered l v
-  checked-known n v a b d = subst (λ (s : Shape). Earlier n (reads s) × Measured s × Numbered s v) e (a, b, d)
+  pub checked-known : (w h n : ℕ) (v : List Fixed) → Earlier n (reads w h k) → Measured k → Numbered k v → Earlier n (reads w h l) × Measured l × Numbered l v
+  checked-known w h n v a b d = subst (λ (s : Shape). Earlier n (reads w h s) × Measured s × Numbered s v) e (a, b, d)
 
   pub drawn-known : (c : Context) (v : List Fixed) (E : Env) (r : Rect) (d d′ : List ℕ) → DrawnIn c r (workOf (c .w) (c .h) l v E) d d′ → DrawnIn c r (workOf (c .w) (c .h) k v E) d d′
   drawn-known c v E r d d′ = subst (λ (s : Shape). DrawnIn c r (workOf (c .w) (c .h) s v E) d d′) (sym e)

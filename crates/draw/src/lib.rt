@@ -12,6 +12,7 @@ ghost use Rattle.buffers.specs.Context.{InLimits, LayerIn, Drawable, StepDrawn}
 ghost use Rattle.draw.specs.ClearedAround.{ClearedAround};
 ghost use Rattle.draw.specs.CoversCanvas.{covers?};
 use buffers::Context;
+use draw_convolve::draw_convolve;
 use draw_map::draw_map;
 use draw_pair::draw_pair;
 use draw_pass::draw_pass;
@@ -32,7 +33,7 @@ fn draw_shape(
     rect: Rect,
 )
     requires { ⌜ Drawable context (now src) (now ws) (now t) × (length (now scratch) ≡ 2 * size (context .w) (context .h)) ⌝ }
-    requires { ⌜ Earlier (context .n) (reads (step .shape)) × Bounded step × Within (context .w) (context .h) rect ⌝ }
+    requires { ⌜ Earlier (context .n) (reads (context .w) (context .h) (step .shape)) × Bounded step × Within (context .w) (context .h) rect ⌝ }
     ensures { λ _. ⌜ StepDrawn context step rect (now (src .entry)) (now (ws .entry)) (now (ws .exit)) ⌝ }
     ensures { λ _. ⌜ WorkBuffer (now (scratch .entry)) (now (scratch .exit)) ⌝ }
 {
@@ -44,6 +45,9 @@ fn draw_shape(
         }
         Shape::Map(map, i) => draw_map(ws, &src[..], context, t, map, values, i, rect),
         Shape::Pair(pair, i, j) => draw_pair(ws, &src[..], context, t, pair, values, i, j, rect),
+        Shape::Convolve(k, i) => {
+            draw_convolve(ws, &src[..], scratch, context, t, k, values, i, rect)
+        }
         _ => draw_rows(ws, &src[..], context, t, shape, rect),
     }
 }
@@ -58,8 +62,8 @@ fn draw_tabled(
     rect: Rect,
 )
     requires { ⌜ Sized (context .w) (context .h) (context .n) (now source) (now workspace) × (length (now scratch) ≡ 2 * size (context .w) (context .h)) ⌝ }
-    requires { ⌜ ValidInputs (context .n) (stands (context .w) (context .h) (now source) (now workspace)) × Earlier (context .n) (reads (step .shape))
-        × Bounded step ⌝ }
+    requires { ⌜ ValidInputs (context .n) (stands (context .w) (context .h) (now source) (now workspace))
+        × Earlier (context .n) (reads (context .w) (context .h) (step .shape)) × Bounded step ⌝ }
     requires { ⌜ Within (context .w) (context .h) rect ⌝ }
     ensures { λ _. ⌜ StepDrawn context step rect (now (source .entry)) (now (workspace .entry)) (now (workspace .exit)) ⌝ }
     ensures { λ _. ⌜ WorkBuffer (now (scratch .entry)) (now (scratch .exit)) ⌝ }
@@ -80,8 +84,8 @@ pub fn draw(
     rect: Rect,
 )
     requires { ⌜ Sized (context .w) (context .h) (context .n) (now source) (now workspace) × (length (now scratch) ≡ 2 * size (context .w) (context .h)) ⌝ }
-    requires { ⌜ ValidInputs (context .n) (stands (context .w) (context .h) (now source) (now workspace)) × Earlier (context .n) (reads (step .shape))
-        × Bounded step ⌝ }
+    requires { ⌜ ValidInputs (context .n) (stands (context .w) (context .h) (now source) (now workspace))
+        × Earlier (context .n) (reads (context .w) (context .h) (step .shape)) × Bounded step ⌝ }
     requires { ⌜ Within (context .w) (context .h) rect ⌝ }
     ensures { λ _. ⌜ StepDrawn context step rect (now (source .entry)) (now (workspace .entry)) (now (workspace .exit)) ⌝ }
     ensures { λ _. ⌜ WorkBuffer (now (scratch .entry)) (now (scratch .exit)) ⌝ }

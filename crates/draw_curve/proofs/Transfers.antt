@@ -18,7 +18,7 @@ use Rattle.filter.specs.Curves.{entries?, transfer?, transfers?, transferRange}
 use Rattle.filter.specs.Signature.{rangeIn, curveNumbers}
 use Rattle.filter.specs.Accepted.{Ranged}
 use Rattle.filter.proofs.Earlier.{both-true}
-use Rattle.filter.proofs.CurveNumbers.{transfer-few}
+use Rattle.filter.proofs.FewNumbers.{transfer-few}
 
 entries-counted : (n : ℕ) → entries? n ≡ true → (1 ≤ n) × (n ≤ 16)
 entries-counted n e = let t = both-true (ltb 0 n) (leb n mostEntries) e in (omega (arith, ltb-true 0 n (t .0)), leb-true n mostEntries (t .1))

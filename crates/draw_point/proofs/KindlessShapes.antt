@@ -26,13 +26,14 @@ kindless-values w h (S.Pass p i dx dy) v E q = absurd q
 kindless-values w h (S.Map m i) v E q = absurd q
 kindless-values w h (S.Pair p i j) v E q = absurd q
 kindless-values w h (S.Merge c is) v E q = refl
+kindless-values w h (S.Convolve k i) v E q = absurd q
 
 -- on buffers that other rows of the layer were drawn to, it can still be worked, and a row of it is what it was
 module _ (c : Context) (r : Rect) (new : Picture) (src d d′ : List ℕ) (k : Shape) (D : DrawnIn c r new d d′) where
   pub workable-later : (pairs : List ℕ) → Workable c src d pairs k → Workable c src d′ pairs k
   workable-later pairs W = record { drawable = drawable-later c r new src d d′ pairs D (W .drawable); earlier = W .earlier; measured = W .measured }
 
-  pub row-later : (p : RowPart) (d″ : List ℕ) → Earlier (c .n) (reads k) → RowDrawn c k p src d′ d″
+  pub row-later : (p : RowPart) (d″ : List ℕ) → Earlier (c .n) (reads (c .w) (c .h) k) → RowDrawn c k p src d′ d″
       → RowPainted c p (λ x. workOf (c .w) (c .h) k [] (shown c src d) x (p .y)) d′ d″
   row-later p d″ e = subst (λ (q : Picture). RowPainted c p (λ x. q x (p .y)) d′ d″) (work-later c r new src d d′ D k [] e)
 

@@ -16,6 +16,7 @@ Kindless (S.Pass p i dx dy) = ⊥
 Kindless (S.Map m i) = ⊥
 Kindless (S.Pair p i j) = ⊥
 Kindless (S.Merge c is) = Unit {0}
+Kindless (S.Convolve k i) = ⊥
 
 -- the shape is drawn inside the rectangle; it needs no values
 abbrev pub ShapeDrawn : Context → Shape → Rect → List ℕ → List ℕ → List ℕ → Type 0

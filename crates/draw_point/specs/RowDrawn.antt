@@ -24,7 +24,7 @@ use Rattle.buffers.specs.Context.{Drawable, LoadedPart, RowPainted}
 -- a step of this shape can be worked on these buffers
 pub record Workable (c : Context) (src ws pairs : List ℕ) (k : Shape) : Type 0 where
   pub drawable : Drawable c src ws pairs
-  pub earlier : Earlier (c .n) (reads k)
+  pub earlier : Earlier (c .n) (reads (c .w) (c .h) k)
   pub measured : Measured k
 
 -- a work row for the columns from `from` up to `to`

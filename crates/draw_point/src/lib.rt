@@ -54,6 +54,7 @@ fn paint(
         Shape::Pass(_, _, _, _) => return,
         Shape::Map(_, _) => return,
         Shape::Pair(_, _, _) => return,
+        Shape::Convolve(_, _) => return,
     }
 }
 
@@ -97,7 +98,8 @@ pub fn draw_rows(
     shape: Shape,
     rect: Rect,
 )
-    requires { ⌜ Drawable context (now source) (now workspace) (now pairs) × Earlier (context .n) (reads shape) × Measured shape × Kindless shape ⌝ }
+    requires { ⌜ Drawable context (now source) (now workspace) (now pairs) × Earlier (context .n) (reads (context .w) (context .h) shape)
+        × Measured shape × Kindless shape ⌝ }
     requires { ⌜ Within (context .w) (context .h) rect ⌝ }
     ensures { λ _. ⌜ ShapeDrawn context shape rect (now (source .entry)) (now (workspace .entry)) (now (workspace .exit)) ⌝ }
 {

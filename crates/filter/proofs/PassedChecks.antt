@@ -14,7 +14,7 @@ use Rattle.filter.specs.declared.Answer.{Answer}
 use Rattle.filter.specs.declared.Answer.the-variants as A
 use Rattle.filter.specs.declared.Step.{Step}
 use Rattle.filter.specs.Answers.{numberOf, accepted?}
-use Rattle.filter.specs.Checks.{unless, orElse, firstOf, inputs?, tables?, numberAnswer, numbersAnswer, onCanvas?, stepAnswer}
+use Rattle.filter.specs.Checks.{unless, orElse, firstOf, inputs?, tables?, kernel?, numberAnswer, numbersAnswer, divides?, onCanvas?, stepAnswer}
 use Rattle.filter.proofs.Earlier.{both-true}
 
 -- a refusal stays the answer, whatever comes after it
@@ -63,11 +63,13 @@ fault-number n Negative = refl
 fault-number n OutOfRange = refl
 fault-number n NotWhole = refl
 
--- checks 7, 16, 8 to 11 and 13, of step n
+-- checks 7, 16, 17, 8 to 11, 17 of a divisor and 13, of step n
 pub record Passed (w h n : ℕ) (s : Step) : Type 0 where
   pub inputs : inputs? n s ≡ true
   pub tables : tables? s ≡ true
+  pub kernel : kernel? s ≡ true
   pub numbers : accepted? (numbersAnswer n s) ≡ true
+  pub divides : divides? s ≡ true
   pub across : s .region .x + s .region .width ≤ w
   pub down : s .region .y + s .region .height ≤ h
 
@@ -76,6 +78,16 @@ unfolding stepAnswer accepted?
 step-accepted w h n s e =
     let seven = unless-accepted (inputs? n s) (A.Input n) _ refl e in
     let sixteen = unless-accepted (tables? s) (A.TableSize n) _ refl (seven .1) in
-    let eleven = else-accepted (numbersAnswer n s) _ (sixteen .1) in
-    let thirteen = both-true (leb (s .region .x + s .region .width) w) _ (unless-accepted (onCanvas? w h (s .region)) (A.OutsideCanvas n) A.Done refl (eleven .1) .0) in
-    record { inputs = seven .0; tables = sixteen .0; numbers = eleven .0; across = leb-true _ _ (thirteen .0); down = leb-true _ _ (thirteen .1) }
+    let seventeen = unless-accepted (kernel? s) (A.Kernel n) _ refl (sixteen .1) in
+    let eleven = else-accepted (numbersAnswer n s) _ (seventeen .1) in
+    let divided = unless-accepted (divides? s) (A.Kernel n) _ refl (eleven .1) in
+    let thirteen = both-true (leb (s .region .x + s .region .width) w) _ (unless-accepted (onCanvas? w h (s .region)) (A.OutsideCanvas n) A.Done refl (divided .1) .0) in
+    record {
+      inputs = seven .0;
+      tables = sixteen .0;
+      kernel = seventeen .0;
+      numbers = eleven .0;
+      divides = divided .0;
+      across = leb-true _ _ (thirteen .0);
+      down = leb-true _ _ (thirteen .1);
+    }

@@ -13,7 +13,7 @@ use Rattle.window.specs.Window.{boxSize, passes, passesOf}
 use Rattle.filter.specs.declared.Kind.{Kind}
 use Rattle.filter.specs.declared.Step.{Step}
 use Rattle.filter.specs.declared.Answer as A
-use Rattle.filter.specs.declared.Answer.the-variants.{Done, Canvas, Source, StepCount, Workspace, Scratch, Rectangle, Input, TableSize, NotFinite, Negative, OutOfRange, NotWhole, OutsideCanvas, AboveAlpha}
+use Rattle.filter.specs.declared.Answer.the-variants.{Done, Canvas, Source, StepCount, Workspace, Scratch, Rectangle, Input, TableSize, Kernel, NotFinite, Negative, OutOfRange, NotWhole, OutsideCanvas, AboveAlpha}
 use Rattle.filter.specs.Steps.{numberAt}
 use Rattle.filter.specs.Answers.{numberOf}
 use Rattle.filter.specs.Checks.{stepAnswer}
@@ -95,6 +95,7 @@ never-12 Scratch e = omega arith
 never-12 Rectangle e = omega arith
 never-12 (Input n) e = omega arith
 never-12 (TableSize n) e = omega arith
+never-12 (Kernel n) e = omega arith
 never-12 (NotFinite n) e = omega arith
 never-12 (Negative n) e = omega arith
 never-12 (OutOfRange n) e = omega arith

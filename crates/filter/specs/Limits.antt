@@ -13,6 +13,10 @@ mostEntries = 16
 abbrev pub mostNumbers : ℕ
 mostNumbers = 64
 
+-- the columns and the rows of a kernel, at most (RULES 5.14)
+abbrev pub mostOrder : ℕ
+mostOrder = 5
+
 -- a side of a text's canvas, at most, and the bytes of such a picture (RULES 9.2)
 abbrev pub longestTextSide : ℕ
 longestTextSide = 16

@@ -13,7 +13,7 @@ use Rattle.filter.specs.declared.Answer.{Answer}
 use Rattle.filter.specs.declared.Answer.the-variants as A
 use Rattle.filter.specs.Reach.{Axis, span}
 use Rattle.filter.specs.Steps.{numberAt, sizeOf}
-use Rattle.filter.specs.Checks.{unless, orElse, inputs?, tables?, numbersAnswer, onCanvas?}
+use Rattle.filter.specs.Checks.{unless, orElse, inputs?, tables?, kernel?, numbersAnswer, divides?, onCanvas?}
 
 -- the widest box of a blur of d: none for d of 0 or 1, d + 1 for even d
 unfoldable pub widest : ℕ → ℕ
@@ -57,7 +57,9 @@ unfoldable pub stepAnswerWith : (Kind → Bool) → Answer → ℕ → ℕ → �
 stepAnswerWith asked twelve w h n s =
     unless (inputs? n s) (A.Input n)
     (unless (tables? s) (A.TableSize n)
+    (unless (kernel? s) (A.Kernel n)
     (orElse (numbersAnswer n s)
     (unless (cond (asked (s .kind)) (boxes? s) true) twelve
+    (unless (divides? s) (A.Kernel n)
     (unless (onCanvas? w h (s .region)) (A.OutsideCanvas n)
-    A.Done))))
+    A.Done))))))

@@ -26,7 +26,7 @@ seen spaces s E i x y = converted (spaces i) s (E i x y)
 
 -- a resolved step as an effect on a canvas of w by h: its region by its bounds, its inputs kept in these spaces and seen in its own
 abbrev pub effectBy : ℕ → ℕ → (I.Input → S.Space) → S.Space → Resolved → Rect → Effect
-effectBy w h spaces s r region = record { work = λ E. work w h r (seen spaces s E); reads = reads (r .shape); region = region }
+effectBy w h spaces s r region = record { work = λ E. work w h r (seen spaces s E); reads = reads w h (r .shape); region = region }
 
 unfoldable pub effectOf : ℕ → ℕ → (I.Input → S.Space) → Step → Effect
 effectOf w h spaces s = effectBy w h spaces (s .space) (resolved s) (boundsOf (s .region))

@@ -5,6 +5,7 @@ use lib.Dec.{ltb}
 use Rattle.number.specs.declared.Range.{Range}
 use Rattle.number.specs.declared.Range.the-variants as R
 use Rattle.pixel.specs.declared.Transfers.{Transfers}
+use Rattle.pixel.specs.declared.Convolution.{Convolution}
 use Rattle.filter.specs.declared.Map.{Map}
 use Rattle.filter.specs.declared.Map.the-variants as Map
 use Rattle.filter.specs.declared.Pair.{Pair}
@@ -16,7 +17,9 @@ use Rattle.filter.specs.declared.Kind.the-variants as K
 use Rattle.filter.specs.declared.Group.{Group}
 use Rattle.filter.specs.declared.Numbers.{Numbers}
 use Rattle.filter.specs.declared.Signature.{Signature}
+use Rattle.filter.specs.Limits.{mostNumbers}
 use Rattle.filter.specs.Curves.{transfers?, transferCount, transferRange}
+use Rattle.filter.specs.Convolutions.{convolution?, convolutionCount, divisorPlace}
 
 -- the numbers before `end` that are in no group before
 abbrev pub upTo : ℕ → Range → Group
@@ -68,17 +71,23 @@ passNumbers Pass.Blur = alike 2 R.Deviation
 passNumbers Pass.Erode = alike 2 R.Radius
 passNumbers Pass.Dilate = alike 2 R.Radius
 
--- bytes, inputs at least and in all, whether tables have 1 to 16 entries, and the numbers
-abbrev pub signature : ℕ → ℕ → ℕ → Bool → Numbers → Signature
-signature b l i t ns = record { bytes = b; least = l; inputs = i; tables = t; numbers = ns }
+-- "Kernel values, divisor and bias lie within −256 to 256"
+abbrev pub convolutionNumbers : Convolution → Numbers
+convolutionNumbers k = alike (convolutionCount k) R.Coefficient
+
+-- bytes, inputs at least and in all, and the numbers, of a kind without tables, kernel and divisor
+abbrev pub signature : ℕ → ℕ → ℕ → Numbers → Signature
+signature b l i ns = record { bytes = b; least = l; inputs = i; tables = true; kernel = true; divisor = mostNumbers; numbers = ns }
 
 abbrev pub signatureOf : Kind → Signature
-signatureOf (K.Flood r g b) = signature 3 0 0 true (alike 1 R.Fraction)
-signatureOf K.Offset = signature 0 1 1 true (alike 2 R.Offset)
-signatureOf (K.Pass p) = signature 0 1 1 true (passNumbers p)
-signatureOf (K.Map m) = signature 0 1 1 (mapTables? m) (mapNumbers m)
-signatureOf (K.Pair p) = signature 0 1 2 true (pairNumbers p)
-signatureOf (K.Merge n) = signature 0 1 n true (alike 0 R.Coefficient)
+signatureOf (K.Flood r g b) = signature 3 0 0 (alike 1 R.Fraction)
+signatureOf K.Offset = signature 0 1 1 (alike 2 R.Offset)
+signatureOf (K.Pass p) = signature 0 1 1 (passNumbers p)
+signatureOf (K.Map m) = record { bytes = 0; least = 1; inputs = 1; tables = mapTables? m; kernel = true; divisor = mostNumbers; numbers = mapNumbers m }
+signatureOf (K.Pair p) = signature 0 1 2 (pairNumbers p)
+signatureOf (K.Merge n) = signature 0 1 n (alike 0 R.Coefficient)
+signatureOf (K.Convolve k) =
+    record { bytes = 0; least = 1; inputs = 1; tables = true; kernel = convolution? k; divisor = divisorPlace k; numbers = convolutionNumbers k }
 
 abbrev pub byteFieldsOf : Kind → ℕ
 byteFieldsOf k = signatureOf k .bytes

@@ -5,7 +5,11 @@ use super::Map;
 use super::Numbers;
 use super::Pair;
 use super::Pass;
+use super::Sheet;
 use super::Signature;
+use super::convolutions::convolution_count;
+use super::convolutions::divisor_place;
+use super::convolutions::is_allowed;
 use super::curves::are_allowed;
 use super::curves::transfer_count;
 use super::curves::transfer_range;
@@ -17,7 +21,19 @@ ghost use Prim.Native.Nat.{_≤_};
 ghost use Rattle.filter.specs.Accepted.{mostOf};
 ghost use Rattle.filter.specs.Kinds.{backOf, aheadOf};
 ghost use Rattle.filter.specs.Limits.{longestSide};
-ghost use Rattle.filter.specs.Signature.{upTo, alike, numberCount, rangeIn, curveNumbers, mapNumbers, mapTables?, pairNumbers, passNumbers, signatureOf};
+ghost use Rattle.filter.specs.Signature.{
+  upTo,
+  alike,
+  numberCount,
+  rangeIn,
+  curveNumbers,
+  mapNumbers,
+  mapTables?,
+  pairNumbers,
+  passNumbers,
+  signature,
+  signatureOf,
+};
 
 // So many numbers of one range.
 fn numbers_alike(count: usize, range: Range) -> Numbers
@@ -124,51 +140,47 @@ pub fn ahead_of(pass: Pass, d: usize) -> usize
     }
 }
 
+// The row of a kind without tables, kernel and divisor.
+fn signature(bytes: usize, least: usize, inputs: usize, numbers: Numbers) -> Signature
+    ensures { λ o. ⌜ o ≡ signature bytes least inputs numbers ⌝ }
+{
+    Signature {
+        bytes,
+        least,
+        inputs,
+        tables: true,
+        kernel: true,
+        divisor: Sheet::NUMBERS,
+        numbers,
+    }
+}
+
 pub fn signature_of(kind: Kind) -> Signature
     ensures { λ o. ⌜ o ≡ signatureOf kind ⌝ }
 {
     match kind {
-        Kind::Flood(_, _, _) => Signature {
-            bytes: 3,
-            least: 0,
-            inputs: 0,
-            tables: true,
-            numbers: numbers_alike(1, Range::Fraction),
-        },
-        Kind::Offset => Signature {
-            bytes: 0,
-            least: 1,
-            inputs: 1,
-            tables: true,
-            numbers: numbers_alike(2, Range::Offset),
-        },
-        Kind::Pass(pass) => Signature {
-            bytes: 0,
-            least: 1,
-            inputs: 1,
-            tables: true,
-            numbers: pass_numbers(pass),
-        },
+        Kind::Flood(_, _, _) => signature(3, 0, 0, numbers_alike(1, Range::Fraction)),
+        Kind::Offset => signature(0, 1, 1, numbers_alike(2, Range::Offset)),
+        Kind::Pass(pass) => signature(0, 1, 1, pass_numbers(pass)),
         Kind::Map(map) => Signature {
             bytes: 0,
             least: 1,
             inputs: 1,
             tables: map_tables(map),
+            kernel: true,
+            divisor: Sheet::NUMBERS,
             numbers: map_numbers(map),
         },
-        Kind::Pair(pair) => Signature {
+        Kind::Pair(pair) => signature(0, 1, 2, pair_numbers(pair)),
+        Kind::Merge(n) => signature(0, 1, n, numbers_alike(0, Range::Coefficient)),
+        Kind::Convolve(convolution) => Signature {
             bytes: 0,
             least: 1,
-            inputs: 2,
+            inputs: 1,
             tables: true,
-            numbers: pair_numbers(pair),
-        },
-        Kind::Merge(n) => Signature {
-            bytes: 0,
-            least: 1,
-            inputs: n,
-            tables: true,
-            numbers: numbers_alike(0, Range::Coefficient),
+            kernel: is_allowed(convolution),
+            divisor: divisor_place(convolution),
+            numbers: numbers_alike(convolution_count(convolution), Range::Coefficient),
         },
     }
 }

@@ -1,8 +1,12 @@
 // Unpremultiply without a division: two numbers for each alpha, by which (255·c + (a ÷ 2)) ÷ a is a product and a shift.
+use pixel::Pixel;
+use pixel::bytes;
 ghost use mathlib.Core.Path.{_≡_};
-ghost use Prim.Native.Nat.{_≤_, _<_};
+ghost use Prim.Native.Nat.{_*_, _≤_, _<_};
 ghost use lib.ListN.{length};
-ghost use Rattle.pixel.specs.Alpha.{unpremultiplied};
+ghost use Rattle.pixel.specs.Alpha.{unpremultiplied, straight, Valid};
+ghost use Rattle.pixel.specs.Bytes.{pixelAt, Painted, ValidRow};
+ghost use Rattle.pixel.specs.Word.{Packed, unpacked};
 ghost use Rattle.kernel_alpha.specs.Tables.{ceiling, UnpremultiplyTable};
 ghost use Rattle.kernel_alpha.specs.Code.{reciprocal};
 
@@ -46,4 +50,30 @@ pub fn unpremultiply(table: &[u32], c: u8, a: u8) -> usize
 {
     let i = a as usize;
     (((c as u32) * table[i] + table[i + 256]) / 65536) as usize
+}
+
+// A pixel as one number, its colours unpremultiplied.
+fn straight_word(table: &[u32], v: u32) -> u32
+    requires { ⌜ UnpremultiplyTable (now table) × Valid (unpacked v) ⌝ }
+    ensures { λ r. ⌜ Packed (straight (unpacked v)) r ⌝ }
+{
+    let a = (v / 16777216) as u8;
+    bytes::pack(Pixel {
+        r: unpremultiply(table, (v % 256) as u8, a) as u8,
+        g: unpremultiply(table, (v / 256 % 256) as u8, a) as u8,
+        b: unpremultiply(table, (v / 65536 % 256) as u8, a) as u8,
+        a: a,
+    })
+}
+
+// A row of n pixels, in place.
+pub fn unpremultiply_row(table: &[u32], row: &mut [u8], n: usize)
+    requires { ⌜ UnpremultiplyTable (now table) × (length (now row) ≡ 4 * n) × ValidRow (now row) n ⌝ }
+    ensures { λ _. ⌜ Painted (λ x. straight (pixelAt (now (row .entry)) (4 * x))) 0 0 n (now (row .entry)) (now (row .exit)) ⌝ }
+{
+    for x in 0..n {
+        let i = 4 * x;
+        let v = bytes::word(&row[..], i);
+        bytes::put(row, i, straight_word(table, v));
+    }
 }

@@ -1,9 +1,13 @@
--- Operators, coefficients, extremes and spaces as plain numbers. Assumes nothing.
-use Prim.Native.Nat.{ℕ}
+-- Operators, coefficients, extremes, spaces and convolutions as plain numbers. Assumes nothing.
+use Prim.Native.Nat.{ℕ, zero, suc, _+_, _*_}
 use mathlib.Core.Bool.{Bool, cond}
+use mathlib.Core.List.{List, [], _∷_}
 use lib.Dec.{eqb}
+use lib.ListN.{getD}
 use Rattle.number.specs.declared.Fixed.{Fixed}
 use Rattle.pixel.specs.declared.Arithmetic.{Arithmetic}
+use Rattle.pixel.specs.declared.Convolution.{Convolution}
+use Rattle.pixel.specs.declared.Edge.the-variants.{None}
 use Rattle.pixel.specs.declared.Operator.{Operator}
 use Rattle.pixel.specs.declared.Operator.the-variants.{Over, In, Out, Atop, Xor}
 use Rattle.pixel.specs.declared.Space.{Space}
@@ -29,3 +33,21 @@ arithmetic k1 k2 k3 k4 = record { k1 = units k1; k2 = units k2; k3 = units k3; k
 -- the space that a conversion leads to
 abbrev pub spaceTo : Bool → Space
 spaceTo linear = cond linear Linear Srgb
+
+-- a convolution, its fields one by one; its kernel does not look at the edge mode
+abbrev pub convolution : ℕ → ℕ → Bool → ℕ → ℕ → Bool → Convolution
+convolution columns rows divided column row preserve =
+    record { columns = columns; rows = rows; divided = divided; column = column; row = row; preserve = preserve; edge = None }
+
+-- number i: what is above zero and what is below it, in turn
+abbrev pub pairAt : List ℕ → ℕ → Fixed
+pairAt l i = record { above = getD l (2 * i) 0; below = getD l (2 * i + 1) 0 }
+
+-- n numbers from number i on
+abbrev pub pairsFrom : List ℕ → ℕ → ℕ → List Fixed
+pairsFrom l i zero = []
+pairsFrom l i (suc n) = pairAt l i ∷ pairsFrom l (suc i) n
+
+-- the 64 numbers of a step
+unfoldable pub pairedValues : List ℕ → List Fixed
+pairedValues l = pairsFrom l 0 64

@@ -3,6 +3,7 @@ pub mod blur;
 pub mod color;
 pub mod composite;
 pub mod convert;
+pub mod convolve;
 pub mod curve;
 pub mod morph;
 pub mod row;

@@ -47,7 +47,7 @@ seen-agree n S T s E F k a = record {
 }
 
 -- a step's layer comes from what it may read
-pub result-same : (w h n : ℕ) (s : Step) (S T : Input → Space) (E F : Env) → Earlier n (reads (shaped s)) → ((i : Input) → allowed? n i ≡ true → S i ≡ T i)
+pub result-same : (w h n : ℕ) (s : Step) (S T : Input → Space) (E F : Env) → Earlier n (reads w h (shaped s)) → ((i : Input) → allowed? n i ≡ true → S i ≡ T i)
     → AgreeBefore n E F → result (canvasOf w h) (effectOf w h S s) E ≡ result (canvasOf w h) (effectOf w h T s) F
 unfolding effectOf
 result-same w h n s S T E F e k a =

@@ -31,7 +31,7 @@ module _ (c : Context) (w h n : ℕ) (s : Step) (zs : List Bool) (made : Resolve
     sized = rw (ew, eh, en) (R .sized);
     scratch = rw (ew, eh) (R .scratch);
     inputs = rw (ew, eh, en) (R .inputs);
-    earlier = rw (en, em) (R .accepted .inputs);
+    earlier = rw (ew, eh, en, em) (R .accepted .inputs);
     bounded = rw em (R .accepted .numbers);
     region = rw (ew, eh, eb) (record { right = R .accepted .region .right; bottom = R .accepted .region .bottom });
   }
@@ -42,7 +42,7 @@ module _ (c : Context) (w h n : ℕ) (s : Step) (zs : List Bool) (made : Resolve
   context-rendered ws′ T = rw (ew, eh, en, es, el, em, eb) at T
 
   -- the rectangle that a redraw works out
-  module _ (rect : Rect) (z : Input → Rect) (ed : rect ≡ meet (meet (canvasOf w h) region) (reached (reads (made .shape)) z)) (W : Within w h rect) where
+  module _ (rect : Rect) (z : Input → Rect) (ed : rect ≡ meet (meet (canvasOf w h) region) (reached (reads w h (made .shape)) z)) (W : Within w h rect) where
     pub damage-is-inside : RectInside c region rect
     damage-is-inside = record {
       inside = rw (ew, eh, ed) (damage-inside (canvasOf w h) (effectBy w h (spacesBy zs) (c .space) made region) z .covers);

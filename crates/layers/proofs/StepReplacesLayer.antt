@@ -49,7 +49,7 @@ sized-same w h n src d d′ e S =
     record { wide = S .wide; high = S .high; steps = S .steps; source = S .source; workspace = rw e (S .workspace) }
 
 module _ (c : Context) (s : Resolved) (region : Rect) (src : List ℕ) where
-  pub render-replaces : (d d₁ d₂ : List ℕ) → Earlier (c .n) (reads (s .shape)) → Within (c .w) (c .h) region → ClearedAround (c .w) (c .h) (c .n) region d d₁
+  pub render-replaces : (d d₁ d₂ : List ℕ) → Earlier (c .n) (reads (c .w) (c .h) (s .shape)) → Within (c .w) (c .h) region → ClearedAround (c .w) (c .h) (c .n) region d d₁
       → StepDrawn c s region src d₁ d₂ → ContextRendered c s region src d d₂
   unfolding shown
   render-replaces d d₁ d₂ e W C D =

@@ -23,7 +23,7 @@ pub record ContextReady (c : Context) (s : Resolved) (r : Rect) (src ws scr : Li
   pub sized : Sized (c .w) (c .h) (c .n) src ws
   pub scratch : length scr ≡ 2 * size (c .w) (c .h)
   pub inputs : ValidInputs (c .n) (stands (c .w) (c .h) src ws)
-  pub earlier : Earlier (c .n) (reads (s .shape))
+  pub earlier : Earlier (c .n) (reads (c .w) (c .h) (s .shape))
   pub bounded : Bounded s
   pub region : Within (c .w) (c .h) r
 

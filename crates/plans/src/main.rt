@@ -17,6 +17,8 @@ use filter::Rect;
 use filter::Region;
 use filter::Sheet;
 use filter::Step;
+use pixel::Convolution;
+use pixel::Edge;
 use pixel::Transfer;
 use pixel::Transfers;
 use tables::field::hex;
@@ -101,7 +103,47 @@ fn print_entries(count: usize) {
     end_line();
 }
 
+// Records of a convolution as step 2 with such orders; the target is the first place.
+
+fn convolution_of(columns: usize, rows: usize) -> Step {
+    let blank = Step::blank();
+    let convolution = Convolution {
+        columns,
+        rows,
+        divided: false,
+        column: 0,
+        row: 0,
+        preserve: false,
+        edge: Edge::None,
+    };
+    let kind = Kind::Convolve(convolution);
+    let region = blank.region;
+    let inputs = blank.inputs;
+    let numbers = blank.numbers;
+    let space = blank.space;
+    Step {
+        kind,
+        region,
+        inputs,
+        numbers,
+        space,
+    }
+}
+
+fn print_orders(columns: usize, rows: usize) {
+    print_word(b"Orders");
+    print_number(columns as u64);
+    print_number(rows as u64);
+    print_answer(checks::checks::check_step(1, 1, 2, convolution_of(columns, rows)));
+    end_line();
+}
+
 fn print_counts() {
+    print_orders(0, 1);
+    print_orders(1, 6);
+    print_orders(5, 5);
+    print_orders(1000000, 1000000);
+    print_orders(6442450941, 2863311531);
     print_entries(0);
     print_entries(1);
     print_entries(16);

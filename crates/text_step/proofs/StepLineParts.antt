@@ -15,7 +15,7 @@ use Rattle.filter.specs.declared.StepInput.{StepInput}
 use Rattle.filter.specs.declared.StepNumber.{StepNumber}
 use Rattle.filter.specs.declared.Signature.{Signature}
 use Rattle.filter.specs.Limits.{mostNumbers}
-use Rattle.filter.specs.Signature.{numberCount, signatureOf, inputsOf}
+use Rattle.filter.specs.Signature.{signatureOf, inputsOf}
 use Rattle.filter.specs.Checks.{merges?}
 use Rattle.filter.specs.Steps.{noInput, noNumber}
 use Rattle.text_field.specs.Words.{bytes}
@@ -24,7 +24,7 @@ use Rattle.text_field.specs.declared.Amount.{Amount}
 use Rattle.text_step.specs.ManyFields.{allFields, padded}
 use Rattle.text_step.specs.Spaces.{spaceAt, closed?}
 use Rattle.text_step.specs.Kinds.{kindOf, details?, sound?}
-use Rattle.text_step.specs.Layout.{numberField, fieldsOf, fieldsFrom, numberFields}
+use Rattle.text_step.specs.Layout.{fieldsOf, fieldsFrom, numberFields}
 use Rattle.text_step.specs.StepLine.{region?, regionOf, layerReference, inputOf, input?, stepInputOf, stepInputsOf, number?, stepNumberOf, stepNumbersOf, noStep, assembled, stepAs, stepOf}
 use Rattle.text_step.specs.declared.Reference.{Reference}
 use Rattle.text_step.specs.declared.Reference.the-variants.{To}
@@ -86,9 +86,6 @@ module _ (k : Kind) (t : Bool) (r : Region) (w : StepInputs) (o : StepNumbers) (
   assembled-bad g d = d ∙ rw (sym (ap (t &&_) e) ∙ sym f ∙ g)
 
 -- the line of a kind
-pub needed : (k : Kind) {r : Signature} {m n : ℕ} → r ≡ signatureOf k → m ≡ numberCount (r .numbers) → n ≡ numberField k m → n ≡ fieldsOf k
-needed k er em en = en ∙ ap (numberField k) (em ∙ ap (λ (r : Signature). numberCount (r .numbers)) er)
-
 module _ (k : Kind) (fs : List (List ℕ)) {o : StepLine} {s : Bool} (e : s ≡ sound? k fs) where
   pub as-unsound : s ≡ false → o ≡ noStep → o ≡ stepAs k fs
   unfolding stepAs

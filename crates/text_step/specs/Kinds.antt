@@ -20,6 +20,7 @@ use Rattle.text_field.specs.Field.{same, given?}
 use Rattle.text_step.specs.Fields.{byteField, floodByte}
 use Rattle.text_step.specs.Spaces.{space?}
 use Rattle.text_step.specs.Transfers.{transfersOf, words?}
+use Rattle.text_step.specs.Convolutions.{convolutionOf, kernel?}
 use Rattle.text_step.specs.declared.Details.{Details}
 use Rattle.text_step.specs.declared.KindFound.{KindFound}
 use Rattle.text_step.specs.declared.KindFound.the-variants.{Known, Unknown}
@@ -46,7 +47,7 @@ passWord Pass.Blur = bytes "blur"
 passWord Pass.Erode = bytes "erode"
 passWord Pass.Dilate = bytes "dilate"
 
--- "Kinds: `flood offset blur erode dilate matrix saturate lumalpha curve over in out atop xor arith merge`"
+-- "Kinds: `flood offset blur erode dilate matrix saturate lumalpha curve over in out atop xor arith merge conv`"
 abbrev pub kindWord : Kind → List ℕ
 kindWord (K.Flood r g b) = bytes "flood"
 kindWord K.Offset = bytes "offset"
@@ -54,6 +55,7 @@ kindWord (K.Pass p) = passWord p
 kindWord (K.Map m) = mapWord m
 kindWord (K.Pair p) = pairWord p
 kindWord (K.Merge n) = bytes "merge"
+kindWord (K.Convolve k) = bytes "conv"
 
 -- a kind where the word is its own
 unfoldable pub kindIf : Bool → Kind → KindFound → KindFound
@@ -71,15 +73,22 @@ kinds d =
     K.Flood (d .r) (d .g) (d .b) ∷ K.Offset ∷ K.Pass Pass.Blur ∷ K.Pass Pass.Erode ∷ K.Pass Pass.Dilate
     ∷ K.Map Map.Matrix ∷ K.Map Map.Saturate ∷ K.Map Map.Luminance ∷ K.Map (Map.Curve (d .transfers))
     ∷ K.Pair (Pair.Operator O.Over) ∷ K.Pair (Pair.Operator O.In) ∷ K.Pair (Pair.Operator O.Out) ∷ K.Pair (Pair.Operator O.Atop)
-    ∷ K.Pair (Pair.Operator O.Xor) ∷ K.Pair Pair.Arithmetic ∷ K.Merge (d .inputs) ∷ []
+    ∷ K.Pair (Pair.Operator O.Xor) ∷ K.Pair Pair.Arithmetic ∷ K.Merge (d .inputs) ∷ K.Convolve (d .convolution) ∷ []
 
 -- a merge's inputs are the fields after the region, without the last where that is a working space: no input is so called
 unfoldable pub mergeInputs : List (List ℕ) → ℕ
 mergeInputs fs = cond (space? (getD fs (length fs - 1) [])) (length fs - 6) (length fs - 5)
 
--- what a line says beside its word, inputs and numbers: a flood's bytes, how many inputs a merge has, a curve's transfers
+-- what a line says beside its word, inputs and numbers: a flood's bytes, how many inputs a merge has, a curve's transfers, a convolution
 abbrev pub detailsOf : List (List ℕ) → Details
-detailsOf fs = record { r = floodByte fs 5; g = floodByte fs 6; b = floodByte fs 7; inputs = mergeInputs fs; transfers = transfersOf fs }
+detailsOf fs = record {
+  r = floodByte fs 5;
+  g = floodByte fs 6;
+  b = floodByte fs 7;
+  inputs = mergeInputs fs;
+  transfers = transfersOf fs;
+  convolution = convolutionOf fs;
+}
 
 unfoldable pub kindOf : List (List ℕ) → KindFound
 kindOf fs = firstKind (getD fs 0 []) (kinds (detailsOf fs))
@@ -94,7 +103,7 @@ mapDetails? Map.Saturate fs = true
 mapDetails? Map.Luminance fs = true
 mapDetails? (Map.Curve t) fs = words? t fs
 
--- "a flood byte above 255 .. is 15", and so is a curve's word that is none
+-- "a flood byte above 255 .. is 15", and so are a word that is none and a bad order
 abbrev pub details? : Kind → List (List ℕ) → Bool
 details? (K.Flood r g b) fs = colour? fs
 details? K.Offset fs = true
@@ -102,6 +111,7 @@ details? (K.Pass p) fs = true
 details? (K.Map m) fs = mapDetails? m fs
 details? (K.Pair p) fs = true
 details? (K.Merge n) fs = true
+details? (K.Convolve k) fs = kernel? k fs
 
 -- "Merge without 1 to 4 inputs is 15 here", and so is a table of 0 or more than 16 entries
 abbrev pub sound? : Kind → List (List ℕ) → Bool

@@ -1,6 +1,8 @@
 // The kinds by their words.
 use super::Details;
 use super::KindFound;
+use super::convolutions::convolution_of;
+use super::convolutions::is_kernel;
 use super::fields::byte_given;
 use super::fields::flood_byte;
 use super::spaces::is_space;
@@ -38,7 +40,9 @@ fn kind_by_word(f: &[u8], d: Details) -> KindFound
     ensures { λ o. ⌜ o ≡ firstKind (now (f .entry)) (kinds d) ⌝ }
 {
     let transfers = d.transfers;
+    let convolution = d.convolution;
     let k = KindFound::Unknown;
+    let k = or(f, b"conv", Kind::Convolve(convolution), k);
     let k = or(f, b"merge", Kind::Merge(d.inputs), k);
     let k = or(f, b"arith", Kind::Pair(Pair::Arithmetic), k);
     let k = or(f, b"xor", Kind::Pair(Pair::Operator(Operator::Xor)), k);
@@ -80,6 +84,7 @@ fn details_of(line: &[u8], n: usize) -> Details
         b: flood_byte(line, 7),
         inputs: merge_inputs(line, n),
         transfers: transfers_of(line),
+        convolution: convolution_of(line),
     }
 }
 
@@ -122,10 +127,11 @@ fn details_given(kind: Kind, line: &[u8]) -> bool
         Kind::Map(map) => map_details_given(map, line),
         Kind::Pair(_) => true,
         Kind::Merge(_) => true,
+        Kind::Convolve(convolution) => is_kernel(convolution, line),
     }
 }
 
-// A merge has 1 to 4 inputs, a table 1 to 16 entries, a flood three bytes, and each channel of a curve a word.
+// A merge has 1 to 4 inputs, a table 1 to 16 entries, a flood three bytes, each channel of a curve a word, and a kernel orders of 1 to 5.
 pub fn is_sound(kind: Kind, row: Signature, line: &[u8]) -> bool
     requires { ⌜ row ≡ signatureOf kind ⌝ }
     ensures { λ o. ⌜ o ≡ sound? kind (split 9 (now (line .entry))) ⌝ }

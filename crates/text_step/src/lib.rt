@@ -1,4 +1,5 @@
 // The line of one step: RULES 9.
+mod convolutions;
 pub mod fields;
 mod kinds;
 mod layout;
@@ -12,23 +13,17 @@ use filter::Sheet;
 use filter::Step;
 use filter::StepInput;
 use filter::StepNumber;
+use pixel::Convolution;
 use pixel::Transfers;
 
-// What a line says beside its word, inputs and numbers: a flood's bytes, how many inputs a merge has, a curve's transfers.
+// What a line says beside its word, inputs and numbers: a flood's bytes, how many inputs a merge has, a curve's transfers, a convolution.
 pub struct Details {
     pub r: u8,
     pub g: u8,
     pub b: u8,
     pub inputs: usize,
     pub transfers: Transfers,
-}
-
-// The fields in front of each group of a kind's numbers that are no numbers.
-pub struct Heads {
-    pub first: usize,
-    pub second: usize,
-    pub third: usize,
-    pub fourth: usize,
+    pub convolution: Convolution,
 }
 
 // The kind that a step line names.

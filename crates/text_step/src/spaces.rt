@@ -32,7 +32,7 @@ pub fn space_at(line: &[u8], i: usize) -> Space
 
 // Whether a line of n fields has as many as it needs, or a working space more.
 pub fn is_closed(line: &[u8], n: usize, needed: usize) -> bool
-    requires { ⌜ (n ≡ length (split 9 (now line))) × (needed ≤ 20 + mostNumbers) ⌝ }
+    requires { ⌜ (n ≡ length (split 9 (now line))) × (needed ≤ 24 + mostNumbers) ⌝ }
     ensures { λ o. ⌜ o ≡ closed? needed (split 9 (now (line .entry))) ⌝ }
 {
     if n == needed {

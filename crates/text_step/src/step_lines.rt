@@ -8,6 +8,7 @@ use super::fields::whole_at;
 use super::fields::whole_given;
 use super::kinds::is_sound;
 use super::kinds::kind_of;
+use super::layout::field_count;
 use super::layout::number_field;
 use super::spaces::is_closed;
 use super::spaces::space_at;
@@ -187,7 +188,7 @@ fn step_as(line: &[u8], kind: Kind, n: usize) -> StepLine
         return no_step();
     }
     let numbers = number_count(row.numbers);
-    let fields = number_field(kind, row, numbers);
+    let fields = field_count(kind, row, numbers);
     if !is_closed(line, n, fields) {
         return no_step();
     }

@@ -1,7 +1,8 @@
 //! Calls whose lines are worked out by hand: the examples of RULES 11, halves between two units, each refusal, and linear
-//! light; last the curves of listed_curves.rs. The lines: tests/calls.expected.
+//! light; last the curves of listed_curves.rs and the convolutions of listed_convolutions.rs. The lines: tests/calls.expected.
 
 use super::calls::Entry;
+use super::listed_convolutions::convolutions;
 use super::listed_curves::curves;
 use super::Case;
 use crate::print::in_srgb;
@@ -134,6 +135,8 @@ fn neighbourhoods() -> Vec<Entry> {
         line("P12 zero", 4, &shades, "blur 0 0 4 1 src x80000000 0", [1, 0, 1, 1]),
         // d is 60: 255 becomes 4, then 0.
         line("sx 32", 1, &[255], "blur 0 0 1 1 src 32 0", [0, 0, 1, 1]),
+        // 31.649 · 1.8799712 + 0.5 is 59.9992: d is 59, and the rectangle 87 pixels wider. 1.88 would make it 60.
+        call("sx 31.649", '-', 100, 1, "blur 0 0 100 1 src 31.649 0\n").changed([0, 0, 1, 1]),
     ]
 }
 
@@ -267,7 +270,17 @@ fn long() -> Vec<Entry> {
 }
 
 pub fn listed() -> Vec<Entry> {
-    let all =
-        [pixels(), halves(), neighbourhoods(), sizes(), steps(), pixels_and_order(), long(), linear_light(), curves()];
+    let all = [
+        pixels(),
+        halves(),
+        neighbourhoods(),
+        sizes(),
+        steps(),
+        pixels_and_order(),
+        long(),
+        linear_light(),
+        curves(),
+        convolutions(),
+    ];
     all.into_iter().flatten().collect()
 }

@@ -1,8 +1,10 @@
 //! Random calls: sheets, pictures, buffers and rectangles, valid ones and damaged ones.
 
 pub mod calls;
+mod convolutions;
 mod curves;
 mod listed;
+mod listed_convolutions;
 mod listed_curves;
 pub mod numbers;
 pub mod plans;
@@ -76,6 +78,7 @@ fn input(random: &mut Random, n: usize, wild: bool) -> Input {
 pub fn step(random: &mut Random, n: usize, width: usize, height: usize, wild: bool) -> Step {
     let kind = match random.pick(&KINDS).1 {
         Kind::Curve(_) => Kind::Curve(curves::transfers(random, wild)),
+        Kind::Convolve(_) => Kind::Convolve(convolutions::convolution(random, wild)),
         kind => kind,
     };
     let (least, most) = kind.inputs();
@@ -93,6 +96,9 @@ pub fn step(random: &mut Random, n: usize, width: usize, height: usize, wild: bo
     let mut numbers: Vec<Number> = kind.ranges().map(|range| number(random, range)).collect();
     if !wild && random.once_in(2) {
         plain_numbers(random, kind, &mut numbers);
+    }
+    if let Kind::Convolve(shape) = kind {
+        convolutions::number(random, shape, &mut numbers, wild);
     }
     Step {
         kind,

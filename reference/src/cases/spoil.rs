@@ -3,7 +3,7 @@
 use crate::random::Random;
 
 /// Fields to put in another's place.
-const ODD_FIELDS: [&str; 57] = [
+const ODD_FIELDS: [&str; 69] = [
     "",
     "0",
     "00",
@@ -61,6 +61,18 @@ const ODD_FIELDS: [&str; 57] = [
     "discrete",
     "Table",
     "gamma",
+    "5",
+    "6",
+    "true",
+    "false",
+    "True",
+    "1.0",
+    "duplicate",
+    "wrap",
+    "none",
+    "None",
+    "mirror",
+    "x37000000",
 ];
 
 const PREFIXES: [&str; 7] = ["0", "+", "-", " ", "x", "1", "\0"];

@@ -1,6 +1,6 @@
 //! Texts for `sheet`: valid ones, refused ones, malformed ones, and junk.
 
-use crate::cases::{curves, damage_picture, picture, sheet, spoil, step, style};
+use crate::cases::{convolutions, curves, damage_picture, picture, sheet, spoil, step, style};
 use crate::line::LONGEST_TEXT_SIDE;
 use crate::print::{self, Style};
 use crate::random::Random;
@@ -105,7 +105,7 @@ fn endings(random: &mut Random) -> Vec<Vec<u8>> {
 
 /// Any text.
 pub fn text(random: &mut Random) -> Vec<u8> {
-    match random.below(32) {
+    match random.below(33) {
         0..=8 => well_formed(random, false),
         9..=17 => well_formed(random, true),
         18..=23 => {
@@ -125,6 +125,11 @@ pub fn text(random: &mut Random) -> Vec<u8> {
             one_step(&listed[random.below(listed.len())])
         }
         30 => {
+            let (listed, spoilt) = (convolutions::listed(), convolutions::spoilt());
+            let lines = if random.once_in(2) { &listed } else { spoilt };
+            one_step(&lines[random.below(lines.len())])
+        }
+        31 => {
             let mut text = EXAMPLE.into();
             mutate(random, &mut text);
             text
@@ -134,7 +139,7 @@ pub fn text(random: &mut Random) -> Vec<u8> {
 }
 
 /// Texts that need little chance: the example with every field and line changed in every way, the ends of every limit,
-/// each kind with every ending, and with its fields changed in a third of the ways; the listed curves.
+/// each kind with every ending, and with its fields changed in a third of the ways; the listed curves and convolutions.
 pub fn listed(random: &mut Random) -> Vec<Vec<u8>> {
     let mut all: Vec<Vec<u8>> =
         vec![EXAMPLE.into(), Vec::new(), b"\n".to_vec(), b"canvas".to_vec(), b"canvas\t0\t0\n".to_vec()];
@@ -154,6 +159,7 @@ pub fn listed(random: &mut Random) -> Vec<Vec<u8>> {
     all.push(written(side, side, &steps, &source, Style::default()));
     all.extend(endings(random));
     all.extend(curves::lines().map(|line| one_step(&line)));
+    all.extend(convolutions::listed().iter().chain(convolutions::spoilt()).map(|line| one_step(line)));
     let example = spoil::split(EXAMPLE.as_bytes());
     for at in 0..example.len() {
         for way in 0..spoil::LINE_WAYS {
@@ -192,7 +198,7 @@ pub fn many(random: &mut Random, count: usize) -> Vec<Vec<u8>> {
 /// A line for each number with how many of the answers have it, 0 for `ok`; then how many there are.
 pub fn by_number(answers: &[Vec<u8>]) -> String {
     let mut said = String::new();
-    for number in 0..17 {
+    for number in 0..18 {
         let begin = if number == 0 { "ok\n".to_string() } else { format!("refused\t{number}\t") };
         said +=
             &format!("{number}\t{}\n", answers.iter().filter(|answer| answer.starts_with(begin.as_bytes())).count());

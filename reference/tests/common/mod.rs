@@ -1,6 +1,8 @@
 //! Sheets from lines of text, drawn or refused.
 #![allow(dead_code)]
 
+pub mod records;
+
 use reference::check::Answer;
 use reference::fault::Fault;
 use reference::print::in_srgb;

@@ -17,7 +17,7 @@ unfolding reads Measured
 draw-pass-requires c κs =
     let k = c .before .before .before in
     let s = k .before .before .before .before .before .before .before in
-    let f = checked-known _ _ (k .shape .given .1) (s .args .context .n) (s .args .step .values) (s .pre .1 .0) (s .pre .1 .1 .shape) (s .pre .1 .1 .values) in
+    let f = checked-known _ _ (k .shape .given .1) (s .args .context .w) (s .args .context .h) (s .args .context .n) (s .args .step .values) (s .pre .1 .0) (s .pre .1 .1 .shape) (s .pre .1 .1 .values) in
     ((s .pre .0 .0 .readable, s .pre .0 .1), (f .0 .0, f .1 .0, f .1 .1, s .pre .1 .2))
 
 enum-known-shape-2 : tie.Need-enum-known-shape-2
@@ -28,7 +28,7 @@ unfolding reads Measured Numbered
 draw-map-requires c κs =
     let k = c .before .before in
     let s = k .before .before .before .before .before .before .before in
-    let f = checked-known _ _ (k .shape2 .given .1) (s .args .context .n) (s .args .step .values) (s .pre .1 .0) (s .pre .1 .1 .shape) (s .pre .1 .1 .values) in
+    let f = checked-known _ _ (k .shape2 .given .1) (s .args .context .w) (s .args .context .h) (s .args .context .n) (s .args .step .values) (s .pre .1 .0) (s .pre .1 .1 .shape) (s .pre .1 .1 .values) in
     ((s .pre .0 .0, f .0 .0), (f .1, f .2, s .pre .1 .2))
 
 enum-known-shape-3 : tie.Need-enum-known-shape-3
@@ -39,13 +39,24 @@ unfolding reads Numbered
 draw-pair-requires c κs =
     let k = c .before .before in
     let s = k .before .before .before .before .before .before .before in
-    let f = checked-known _ _ (k .shape3 .given .1) (s .args .context .n) (s .args .step .values) (s .pre .1 .0) (s .pre .1 .1 .shape) (s .pre .1 .1 .values) in
+    let f = checked-known _ _ (k .shape3 .given .1) (s .args .context .w) (s .args .context .h) (s .args .context .n) (s .args .step .values) (s .pre .1 .0) (s .pre .1 .1 .shape) (s .pre .1 .1 .values) in
     ((s .pre .0 .0, f .2), (f .0 .0, f .0 .1 .0, s .pre .1 .2))
+
+enum-known-shape-4 : tie.Need-enum-known-shape-4
+enum-known-shape-4 c = search needs
+
+draw-convolve-requires : tie.Need-draw-convolve-requires
+unfolding reads Measured Numbered
+draw-convolve-requires c κs =
+    let k = c .before .before .before in
+    let s = k .before .before .before .before .before .before .before in
+    let f = checked-known _ _ (k .shape4 .given .1) (s .args .context .w) (s .args .context .h) (s .args .context .n) (s .args .step .values) (s .pre .1 .0) (s .pre .1 .1 .shape) (s .pre .1 .1 .values) in
+    (s .pre .0, ((f .0 .0, f .1, f .2 .0), (f .2 .1, s .pre .1 .2)))
 
 draw-rows-requires : tie.Need-draw-rows-requires
 draw-rows-requires c κs =
     let s = c .before .before .before .before .before .before .before in
-    ((s .pre .0 .0, s .pre .1 .0, s .pre .1 .1 .shape, others-kindless (s .args .step .shape) (c .before .match .keys4)), s .pre .1 .2)
+    ((s .pre .0 .0, s .pre .1 .0, s .pre .1 .1 .shape, others-kindless (s .args .step .shape) (c .before .match .keys5)), s .pre .1 .2)
 
 same-length : tie.Need-same-length
 same-length c = search needs
@@ -86,12 +97,25 @@ returns-3 c =
 same-length-5 : tie.Need-same-length-5
 same-length-5 c = search needs
 
+same-length-6 : tie.Need-same-length-6
+same-length-6 c = search needs
+
 returns-4 : tie.Need-returns-4
 returns-4 c =
+    let d = c .before .before .before .before in
+    let k = d .before .before .before .before in
+    let a = k .before .before .before .before .before .before .before .args in
+    (drawn-known _ _ (k .shape4 .given .1) (a .context) (a .step .values) (shown (a .context) (a .src .now) (a .ws .now)) _ _ _ (d .draw-convolve .ensures .0), d .draw-convolve .ensures .1)
+
+same-length-7 : tie.Need-same-length-7
+same-length-7 c = search needs
+
+returns-5 : tie.Need-returns-5
+returns-5 c =
     let d = c .before .before in
     let s = d .before .before .before .before .before .before .before .before in
     let a = s .args in
-    let q = others-kindless (a .step .shape) (d .before .before .match .keys4) in
+    let q = others-kindless (a .step .shape) (d .before .before .match .keys5) in
     (rw (kindless-values (a .context .w) (a .context .h) (a .step .shape) (a .step .values) (shown (a .context) (a .src .now) (a .ws .now)) q) (d .draw-rows .ensures), record { long = refl })
 
 pub draw-shape-spec : {M : Type 1} → statement M
@@ -104,6 +128,8 @@ draw-shape-spec =
     draw-map-requires
     enum-known-shape-3
     draw-pair-requires
+    enum-known-shape-4
+    draw-convolve-requires
     draw-rows-requires
     same-length
     same-length-2
@@ -113,4 +139,7 @@ draw-shape-spec =
     same-length-4
     returns-3
     same-length-5
-    returns-4)
+    same-length-6
+    returns-4
+    same-length-7
+    returns-5)

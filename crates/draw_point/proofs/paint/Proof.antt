@@ -62,12 +62,21 @@ returns-3 c =
     let s = c .before .before .before .before .before .before .before .before in
     absurd (kindless-known (s .args .context) _ _ (c .enum-told3 .given .1) (s .pre .0 .1))
 
+enum-told-4 : tie.Need-enum-told-4
+enum-told-4 c = search needs
+
+returns-4 : tie.Need-returns-4
+unfolding Kindless
+returns-4 c =
+    let s = c .before .before .before .before .before .before .before .before in
+    absurd (kindless-known (s .args .context) _ _ (c .enum-told4 .given .1) (s .pre .0 .1))
+
 same-length : tie.Need-same-length
 same-length c = search needs
 
-returns-4 : tie.Need-returns-4
+returns-5 : tie.Need-returns-5
 unfolding workOf
-returns-4 c =
+returns-5 c =
     let paint-flood-at = c .before .before in
     let shape-at = paint-flood-at .before .before .before in
     let s = shape-at .before .before .before .before .before .before .before .before in
@@ -79,8 +88,8 @@ same-length-2 c = search needs
 same-length-3 : tie.Need-same-length-3
 same-length-3 c = search needs
 
-returns-5 : tie.Need-returns-5
-returns-5 c =
+returns-6 : tie.Need-returns-6
+returns-6 c =
     let paint-offset-at = c .before .before .before .before in
     let shape2-at = paint-offset-at .before .before .before .before in
     let s = shape2-at .before .before .before .before .before .before .before .before in
@@ -98,8 +107,8 @@ same-length-6 c = search needs
 same-length-7 : tie.Need-same-length-7
 same-length-7 c = search needs
 
-returns-6 : tie.Need-returns-6
-returns-6 c =
+returns-7 : tie.Need-returns-7
+returns-7 c =
     let paint-merge-at = c .before .before .before .before .before .before .before .before in
     let shape3-at = paint-merge-at .before .before .before .before .before .before in
     let s = shape3-at .before .before .before .before .before .before .before .before in
@@ -121,13 +130,15 @@ paint-spec =
     returns-2
     enum-told-3
     returns-3
-    same-length
+    enum-told-4
     returns-4
+    same-length
+    returns-5
     same-length-2
     same-length-3
-    returns-5
+    returns-6
     same-length-4
     same-length-5
     same-length-6
     same-length-7
-    returns-6)
+    returns-7)

@@ -42,7 +42,7 @@ damage-of-requires c κs =
     let s = e .before .before .before in
     let a = s .args in
     let A = accepted-step (a .w) (a .h) (a .n) (a .step) (ap accepted? (sym (e .before .before .check-step .ensures)) ∙ sym (e .before .is-accepted .ensures) ∙ not-false _ (e .if1 .left)) in
-    (rw (c .before .resolve .ensures) (A .numbers .shape), s .pre .1 .1)
+    (rw (c .before .resolve .ensures) (A .numbers .shape), s .pre .1 .1, s .pre .0 .1, s .pre .0 .2)
 
 with-rect-requires : tie.Need-with-rect-requires
 with-rect-requires c κs =

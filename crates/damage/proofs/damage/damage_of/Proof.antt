@@ -24,7 +24,7 @@ meet-requires-2 c κs = search needs
 returns : tie.Need-returns
 returns c =
     let s = c .before .before .before .before .args in
-    let e : c .meet2 .result ≡ meet (meet (canvasOf (s .width) (s .height)) (s .region)) (reached (reads (s .shape)) (rectOf (s .changed) (s .rects))) =
+    let e : c .meet2 .result ≡ meet (meet (canvasOf (s .width) (s .height)) (s .region)) (reached (reads (s .width) (s .height) (s .shape)) (rectOf (s .changed) (s .rects))) =
     rw (c .meet2 .ensures, c .before .reached .ensures, c .before .before .meet .ensures, c .before .before .before .canvas .ensures) in
     (e, meet-within _ _ _ _ _ e)
 

@@ -1,10 +1,19 @@
--- `damage::damage::reached` meets its contract, shape by shape. Assumes nothing.
+-- `damage::damage::reached` meets its contract. Assumes nothing.
 use Rattle.filter.specs.Kinds.{reads}
 use Rattle.filter.specs.Accepted.{Measured}
 use Rattle.filter.specs.Layers.{reached}
 use borrow.Author.Needs.{needs}
 use Rattle.damage.proofs.damage.reached.Statement.{statement}
 use Rattle.damage.proofs.damage.reached.Tie as tie
+use Rattle.damage.proofs.damage.reached.Reads as reads
+use Rattle.damage.proofs.damage.reached.Lts as lts
+use Rattle.damage.proofs.damage.join_input.Reads as join-input-reads
+use Rattle.damage.proofs.damage.reached_convolve.Reads as reached-convolve-reads
+use Rattle.damage.proofs.damage.reached_merge.Reads as reached-merge-reads
+use Rattle.damage.proofs.damage.reached_pair.Reads as reached-pair-reads
+use Rattle.damage.proofs.damage.reached_pass.Reads as reached-pass-reads
+use Rattle.damage.proofs.damage.reached_shift.Reads as reached-shift-reads
+use Rattle.damage.proofs.rectangle.none.Reads as none-reads
 
 enum-told : tie.Need-enum-told
 enum-told c = search needs
@@ -47,6 +56,13 @@ enum-known-shape-5 c = search needs
 reached-merge-requires : tie.Need-reached-merge-requires
 reached-merge-requires c κs = search needs
 
+enum-known-shape-6 : tie.Need-enum-known-shape-6
+enum-known-shape-6 c = search needs
+
+reached-convolve-requires : tie.Need-reached-convolve-requires
+unfolding Measured
+reached-convolve-requires c κs = let k = rw (c .before .shape6 .given .1) at (c .before .before .before .pre .0) in (c .before .before .before .pre .1, k, c .before .before .before .pre .2, c .before .before .before .pre .3)
+
 returns : tie.Need-returns
 unfolding reads reached
 returns c = rw (c .before .enum-told .given .1) (c .none .ensures)
@@ -71,6 +87,10 @@ returns-6 : tie.Need-returns-6
 unfolding reads reached
 returns-6 c = rw (c .before .before .shape5 .given .1) (c .reached-merge .ensures)
 
+returns-7 : tie.Need-returns-7
+unfolding reads reached
+returns-7 c = rw (c .before .before .shape6 .given .1) (c .reached-convolve .ensures)
+
 pub reached-spec : {M : Type 1} → statement M
 reached-spec =
     tie.close
@@ -88,9 +108,12 @@ reached-spec =
     reached-pair-requires
     enum-known-shape-5
     reached-merge-requires
+    enum-known-shape-6
+    reached-convolve-requires
     returns
     returns-2
     returns-3
     returns-4
     returns-5
-    returns-6)
+    returns-6
+    returns-7)

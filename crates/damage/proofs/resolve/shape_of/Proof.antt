@@ -1,8 +1,17 @@
--- `damage::resolve::shape_of` meets its contract, shape by shape. Assumes nothing.
+-- `damage::resolve::shape_of` meets its contract. Assumes nothing.
 use Rattle.filter.specs.Steps.{shaped}
 use borrow.Author.Needs.{needs}
 use Rattle.damage.proofs.resolve.shape_of.Statement.{statement}
 use Rattle.damage.proofs.resolve.shape_of.Tie as tie
+use Rattle.damage.proofs.resolve.shape_of.Reads as reads
+use Rattle.damage.proofs.resolve.shape_of.Lts as lts
+use Rattle.damage.proofs.resolve.inputs.Reads as inputs-reads
+use Rattle.damage.proofs.resolve.pixels_at.Reads as pixels-at-reads
+use Rattle.damage.proofs.resolve.shift_at.Reads as shift-at-reads
+use Rattle.damage.proofs.resolve.units_at.Reads as units-at-reads
+use Rattle.filter.proofs.steps.input_at.Reads as input-at-reads
+use Rattle.pixel.proofs.convert.convert.Reads as convert-reads
+use Rattle.pixel.proofs.flood.flood.Reads as flood-reads
 
 enum-known-kind : tie.Need-enum-known-kind
 enum-known-kind c = search needs
@@ -61,6 +70,12 @@ enum-known-kind-5 c = search needs
 inputs-requires : tie.Need-inputs-requires
 inputs-requires c κs = search needs
 
+enum-known-kind-6 : tie.Need-enum-known-kind-6
+enum-known-kind-6 c = search needs
+
+input-at-requires-6 : tie.Need-input-at-requires-6
+input-at-requires-6 c κs = search needs
+
 returns : tie.Need-returns
 unfolding shaped
 returns c = rw (c .before .before .before .before .kind .given .1, c .convert .ensures, c .before .flood .ensures .0, c .before .before .units-at .ensures .0)
@@ -85,6 +100,10 @@ returns-6 : tie.Need-returns-6
 unfolding shaped
 returns-6 c = rw (c .before .before .kind5 .given .1, c .inputs .ensures)
 
+returns-7 : tie.Need-returns-7
+unfolding shaped
+returns-7 c = rw (c .before .before .kind6 .given .1, c .input-at6 .ensures)
+
 pub shape-of-spec : {M : Type 1} → statement M
 shape-of-spec =
     tie.close
@@ -108,9 +127,12 @@ shape-of-spec =
     input-at-requires-5
     enum-known-kind-5
     inputs-requires
+    enum-known-kind-6
+    input-at-requires-6
     returns
     returns-2
     returns-3
     returns-4
     returns-5
-    returns-6)
+    returns-6
+    returns-7)

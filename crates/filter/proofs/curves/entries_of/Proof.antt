@@ -1,7 +1,7 @@
 -- `filter::curves::entries_of` meets its contract: a count that is refused is 0. Assumes nothing.
 use mathlib.Core.Path.{sym, _∙_}
 use native.Mathlib.Omega.{arith}
-use Rattle.filter.proofs.CurveNumbers.{entries-few}
+use Rattle.filter.proofs.FewNumbers.{entries-few}
 use borrow.Author.Needs.{needs}
 use Rattle.filter.proofs.curves.entries_of.Statement.{statement}
 use Rattle.filter.proofs.curves.entries_of.Tie as tie

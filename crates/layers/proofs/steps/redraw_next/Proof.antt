@@ -32,7 +32,7 @@ damage-of-requires : tie.Need-damage-of-requires
 damage-of-requires c κs =
     let s = c .before .before .before .before .before .before .before in
     let S = s .pre .0 .sized in
-    (rw (c .before .resolve .ensures) (s .pre .0 .accepted .numbers .shape), rw (c .bounds2 .ensures) (all-within-more _ _ _ _ (S .wide) (S .high) (s .pre .1 .within)))
+    (rw (c .before .resolve .ensures) (s .pre .0 .accepted .numbers .shape), rw (c .bounds2 .ensures) (all-within-more _ _ _ _ (S .wide) (S .high) (s .pre .1 .within)), S .wide, S .high)
 
 area-requires : tie.Need-area-requires
 area-requires c κs =

@@ -28,6 +28,12 @@ enum-told-4 c = search needs
 enum-told-5 : tie.Need-enum-told-5
 enum-told-5 c = search needs
 
+enum-known-kind-2 : tie.Need-enum-known-kind-2
+enum-known-kind-2 c = search needs
+
+is-kernel-requires : tie.Need-is-kernel-requires
+is-kernel-requires c κs = search needs
+
 returns : tie.Need-returns
 returns c = c .colour-given .ensures ∙ rw (c .before .enum-told .given .1)
 
@@ -46,6 +52,9 @@ returns-5 c = search needs
 returns-6 : tie.Need-returns-6
 returns-6 c = search needs
 
+returns-7 : tie.Need-returns-7
+returns-7 c = c .is-kernel .ensures ∙ rw (c .before .before .kind2 .given .1)
+
 pub details-given-spec : {M : Type 1} → statement M
 details-given-spec =
     tie.close
@@ -58,9 +67,12 @@ details-given-spec =
     map-details-given-requires
     enum-told-4
     enum-told-5
+    enum-known-kind-2
+    is-kernel-requires
     returns
     returns-2
     returns-3
     returns-4
     returns-5
-    returns-6)
+    returns-6
+    returns-7)

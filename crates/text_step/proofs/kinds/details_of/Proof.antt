@@ -18,6 +18,9 @@ merge-inputs-requires c κs = search needs
 transfers-of-requires : tie.Need-transfers-of-requires
 transfers-of-requires c κs = search needs
 
+convolution-of-requires : tie.Need-convolution-of-requires
+convolution-of-requires c κs = search needs
+
 returns : tie.Need-returns
 returns c = cc
 
@@ -30,4 +33,5 @@ details-of-spec =
     flood-byte-requires-3
     merge-inputs-requires
     transfers-of-requires
+    convolution-of-requires
     returns)

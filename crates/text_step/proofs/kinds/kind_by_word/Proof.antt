@@ -101,25 +101,32 @@ slice-aggregate-or-16 c = search needs
 or-requires-16 : tie.Need-or-requires-16
 or-requires-16 c κs = search needs
 
+slice-aggregate-or-17 : tie.Need-slice-aggregate-or-17
+slice-aggregate-or-17 c = search needs
+
+or-requires-17 : tie.Need-or-requires-17
+or-requires-17 c κs = search needs
+
 returns : tie.Need-returns
 unfolding firstKind
 returns c =
-    c .or16 .ensures
-    ∙ ap (kindIf _ _) (c .before .before .or15 .ensures
-    ∙ ap (kindIf _ _) (c .before .before .before .before .or14 .ensures
-    ∙ ap (kindIf _ _) (c .before .before .before .before .before .before .or13 .ensures
-    ∙ ap (kindIf _ _) (c .before .before .before .before .before .before .before .before .or12 .ensures
-    ∙ ap (kindIf _ _) (c .before .before .before .before .before .before .before .before .before .before .or11 .ensures
-    ∙ ap (kindIf _ _) (c .before .before .before .before .before .before .before .before .before .before .before .before .or10 .ensures
-    ∙ ap (kindIf _ _) (c .before .before .before .before .before .before .before .before .before .before .before .before .before .before .or9 .ensures
-    ∙ ap (kindIf _ _) (c .before .before .before .before .before .before .before .before .before .before .before .before .before .before .before .before .or8 .ensures
-    ∙ ap (kindIf _ _) (c .before .before .before .before .before .before .before .before .before .before .before .before .before .before .before .before .before .before .or7 .ensures
-    ∙ ap (kindIf _ _) (c .before .before .before .before .before .before .before .before .before .before .before .before .before .before .before .before .before .before .before .before .or6 .ensures
-    ∙ ap (kindIf _ _) (c .before .before .before .before .before .before .before .before .before .before .before .before .before .before .before .before .before .before .before .before .before .before .or5 .ensures
-    ∙ ap (kindIf _ _) (c .before .before .before .before .before .before .before .before .before .before .before .before .before .before .before .before .before .before .before .before .before .before .before .before .or4 .ensures
-    ∙ ap (kindIf _ _) (c .before .before .before .before .before .before .before .before .before .before .before .before .before .before .before .before .before .before .before .before .before .before .before .before .before .before .or3 .ensures
-    ∙ ap (kindIf _ _) (c .before .before .before .before .before .before .before .before .before .before .before .before .before .before .before .before .before .before .before .before .before .before .before .before .before .before .before .before .or2 .ensures
-    ∙ ap (kindIf _ _) (c .before .before .before .before .before .before .before .before .before .before .before .before .before .before .before .before .before .before .before .before .before .before .before .before .before .before .before .before .before .before .or .ensures)))))))))))))))
+    c .or17 .ensures
+    ∙ ap (kindIf _ _) (c .before .before .or16 .ensures
+    ∙ ap (kindIf _ _) (c .before .before .before .before .or15 .ensures
+    ∙ ap (kindIf _ _) (c .before .before .before .before .before .before .or14 .ensures
+    ∙ ap (kindIf _ _) (c .before .before .before .before .before .before .before .before .or13 .ensures
+    ∙ ap (kindIf _ _) (c .before .before .before .before .before .before .before .before .before .before .or12 .ensures
+    ∙ ap (kindIf _ _) (c .before .before .before .before .before .before .before .before .before .before .before .before .or11 .ensures
+    ∙ ap (kindIf _ _) (c .before .before .before .before .before .before .before .before .before .before .before .before .before .before .or10 .ensures
+    ∙ ap (kindIf _ _) (c .before .before .before .before .before .before .before .before .before .before .before .before .before .before .before .before .or9 .ensures
+    ∙ ap (kindIf _ _) (c .before .before .before .before .before .before .before .before .before .before .before .before .before .before .before .before .before .before .or8 .ensures
+    ∙ ap (kindIf _ _) (c .before .before .before .before .before .before .before .before .before .before .before .before .before .before .before .before .before .before .before .before .or7 .ensures
+    ∙ ap (kindIf _ _) (c .before .before .before .before .before .before .before .before .before .before .before .before .before .before .before .before .before .before .before .before .before .before .or6 .ensures
+    ∙ ap (kindIf _ _) (c .before .before .before .before .before .before .before .before .before .before .before .before .before .before .before .before .before .before .before .before .before .before .before .before .or5 .ensures
+    ∙ ap (kindIf _ _) (c .before .before .before .before .before .before .before .before .before .before .before .before .before .before .before .before .before .before .before .before .before .before .before .before .before .before .or4 .ensures
+    ∙ ap (kindIf _ _) (c .before .before .before .before .before .before .before .before .before .before .before .before .before .before .before .before .before .before .before .before .before .before .before .before .before .before .before .before .or3 .ensures
+    ∙ ap (kindIf _ _) (c .before .before .before .before .before .before .before .before .before .before .before .before .before .before .before .before .before .before .before .before .before .before .before .before .before .before .before .before .before .before .or2 .ensures
+    ∙ ap (kindIf _ _) (c .before .before .before .before .before .before .before .before .before .before .before .before .before .before .before .before .before .before .before .before .before .before .before .before .before .before .before .before .before .before .before .before .or .ensures))))))))))))))))
 
 pub kind-by-word-spec : {M : Type 1} → statement M
 kind-by-word-spec =
@@ -157,4 +164,6 @@ kind-by-word-spec =
     or-requires-15
     slice-aggregate-or-16
     or-requires-16
+    slice-aggregate-or-17
+    or-requires-17
     returns)

@@ -1,61 +1,74 @@
--- `text_step::layout::heads_to` meets its contract. The first group that ends behind i. Assumes nothing.
-use mathlib.Core.Path.{ap, _∙_}
-use Prim.Native.Nat.{_+_}
-use native.Mathlib.Omega.{arith}
-use borrow.Author.Tests.{lt-ltb, le-ltb}
-use Rattle.text_step.specs.declared.Heads.{Heads}
-use Rattle.text_step.proofs.Placed.{few-heads}
+-- `text_step::layout::heads_to` meets its contract. Kind by kind. Assumes nothing.
+use mathlib.Core.Path.{_∙_}
 use borrow.Author.Needs.{needs}
 use Rattle.text_step.proofs.layout.heads_to.Statement.{statement}
 use Rattle.text_step.proofs.layout.heads_to.Tie as tie
 
-heads-of-requires : tie.Need-heads-of-requires
-heads-of-requires c κs = search needs
+enum-told : tie.Need-enum-told
+enum-told c = search needs
+
+enum-told-2 : tie.Need-enum-told-2
+enum-told-2 c = search needs
+
+enum-told-3 : tie.Need-enum-told-3
+enum-told-3 c = search needs
+
+enum-known-kind : tie.Need-enum-known-kind
+enum-known-kind c = search needs
+
+map-heads-requires : tie.Need-map-heads-requires
+map-heads-requires c κs = search needs
+
+enum-told-4 : tie.Need-enum-told-4
+enum-told-4 c = search needs
+
+enum-told-5 : tie.Need-enum-told-5
+enum-told-5 c = search needs
+
+enum-known-kind-2 : tie.Need-enum-known-kind-2
+enum-known-kind-2 c = search needs
+
+convolution-heads-requires : tie.Need-convolution-heads-requires
+convolution-heads-requires c κs = search needs
 
 returns : tie.Need-returns
-returns c = (ap (λ (h : Heads). h .first) (c .before .before .before .heads-of .ensures) ∙ simp (lt-ltb _ _ (c .if1 .taken)), omega (arith, few-heads (c .before .before .before .before .args .kind) (c .before .before .before .heads-of .ensures)))
-
-add-result : tie.Need-add-result
-add-result c = omega (arith, few-heads (c .before .before .before .before .before .before .before .before .args .kind) (c .before .before .before .before .before .before .before .heads-of .ensures))
+returns c = search needs
 
 returns-2 : tie.Need-returns-2
-returns-2 c = (ap (λ (h : Heads). h .first + h .second) (c .before .before .before .before .before .before .before .heads-of .ensures) ∙ simp (le-ltb _ _ (c .before .before .before .before .if1 .left), lt-ltb _ _ (c .before .if2 .taken)), omega (arith, few-heads (c .before .before .before .before .before .before .before .before .args .kind) (c .before .before .before .before .before .before .before .heads-of .ensures)))
-
-add-result-2 : tie.Need-add-result-2
-add-result-2 c = omega (arith, few-heads (c .before .before .before .before .before .before .before .before .before .before .before .args .kind) (c .before .before .before .before .before .before .before .before .before .before .heads-of .ensures))
-
-add-result-3 : tie.Need-add-result-3
-add-result-3 c = omega (arith, few-heads (c .before .before .before .before .before .before .before .before .before .before .before .before .args .kind) (c .before .before .before .before .before .before .before .before .before .before .before .heads-of .ensures))
+returns-2 c = search needs
 
 returns-3 : tie.Need-returns-3
-returns-3 c =
-    (ap (λ (h : Heads). h .first + h .second + h .third) (c .before .before .before .before .before .before .before .before .before .before .before .heads-of .ensures) ∙ simp (le-ltb _ _ (c .before .before .before .before .before .before .before .before .if1 .left), le-ltb _ _ (c .before .before .before .before .before .if2 .left), lt-ltb _ _ (c .before .before .if3 .taken)), omega (arith, few-heads (c .before .before .before .before .before .before .before .before .before .before .before .before .args .kind) (c .before .before .before .before .before .before .before .before .before .before .before .heads-of .ensures)))
-
-add-result-4 : tie.Need-add-result-4
-add-result-4 c = omega (arith, few-heads (c .before .before .before .before .before .before .before .before .before .before .before .args .kind) (c .before .before .before .before .before .before .before .before .before .before .heads-of .ensures))
-
-add-result-5 : tie.Need-add-result-5
-add-result-5 c = omega (arith, few-heads (c .before .before .before .before .before .before .before .before .before .before .before .before .args .kind) (c .before .before .before .before .before .before .before .before .before .before .before .heads-of .ensures))
-
-add-result-6 : tie.Need-add-result-6
-add-result-6 c = omega (arith, few-heads (c .before .before .before .before .before .before .before .before .before .before .before .before .before .args .kind) (c .before .before .before .before .before .before .before .before .before .before .before .before .heads-of .ensures))
+returns-3 c = search needs
 
 returns-4 : tie.Need-returns-4
-returns-4 c =
-    (ap (λ (h : Heads). h .first + h .second + h .third + h .fourth) (c .before .before .before .before .before .before .before .before .before .before .before .before .heads-of .ensures) ∙ simp (le-ltb _ _ (c .before .before .before .before .before .before .before .before .before .if1 .left), le-ltb _ _ (c .before .before .before .before .before .before .if2 .left), le-ltb _ _ (c .before .before .before .if3 .left)), omega (arith, few-heads (c .before .before .before .before .before .before .before .before .before .before .before .before .before .args .kind) (c .before .before .before .before .before .before .before .before .before .before .before .before .heads-of .ensures)))
+returns-4 c = (c .map-heads .ensures .0 ∙ rw (c .before .before .kind .given .1), c .map-heads .ensures .1)
+
+returns-5 : tie.Need-returns-5
+returns-5 c = search needs
+
+returns-6 : tie.Need-returns-6
+returns-6 c = search needs
+
+returns-7 : tie.Need-returns-7
+returns-7 c = (c .convolution-heads .ensures .0 ∙ rw (c .before .before .kind2 .given .1), c .convolution-heads .ensures .1)
 
 pub heads-to-spec : {M : Type 1} → statement M
 heads-to-spec =
     tie.close
     (tie.spec
-    heads-of-requires
+    enum-told
+    enum-told-2
+    enum-told-3
+    enum-known-kind
+    map-heads-requires
+    enum-told-4
+    enum-told-5
+    enum-known-kind-2
+    convolution-heads-requires
     returns
-    add-result
     returns-2
-    add-result-2
-    add-result-3
     returns-3
-    add-result-4
-    add-result-5
-    add-result-6
-    returns-4)
+    returns-4
+    returns-5
+    returns-6
+    returns-7)

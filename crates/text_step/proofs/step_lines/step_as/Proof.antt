@@ -1,12 +1,11 @@
--- `text_step::step_lines::step_as` meets its contract. A sound kind has few inputs, and no kind many numbers, so that the count of fields fits. Assumes nothing.
+-- `text_step::step_lines::step_as` meets its contract. A sound kind has few inputs. Assumes nothing.
 use mathlib.Core.Path.{ap, _∙_}
 use borrow.Author.Tests.{not-true, not-false}
 use native.Mathlib.Omega.{arith}
 use Rattle.filter.specs.declared.Signature.{Signature}
 use Rattle.filter.specs.Signature.{numberCount}
-use Rattle.filter.proofs.CurveNumbers.{numbers-few}
 use Rattle.text_step.proofs.Placed.{few-bytes}
-use Rattle.text_step.proofs.StepLineParts.{few-inputs, needed, as-unsound, as-open, as-good}
+use Rattle.text_step.proofs.StepLineParts.{few-inputs, as-unsound, as-open, as-good}
 use borrow.Author.Needs.{needs}
 use Rattle.text_step.proofs.step_lines.step_as.Statement.{statement}
 use Rattle.text_step.proofs.step_lines.step_as.Tie as tie
@@ -26,19 +25,19 @@ returns c = as-unsound _ _ (c .before .before .is-sound .ensures) (not-true _ (c
 number-count-requires : tie.Need-number-count-requires
 number-count-requires c κs = search needs
 
-number-field-requires : tie.Need-number-field-requires
-number-field-requires c κs =
-    let e = c .number-count .ensures ∙ ap (λ (r : Signature). numberCount (r .numbers)) (c .before .before .before .signature-of .ensures) in
-    (c .before .before .before .signature-of .ensures, few-inputs (c .before .before .before .before .before .args .kind) _ (c .before .before .before .signature-of .ensures) (c .before .before .is-sound .ensures) (not-false _ (c .before .if1 .left)), omega (arith, e, numbers-few (c .before .before .before .before .before .args .kind)))
+field-count-requires : tie.Need-field-count-requires
+field-count-requires c κs =
+    let row = c .before .before .before .signature-of .ensures in
+    (row, few-inputs (c .before .before .before .before .before .args .kind) _ row (c .before .before .is-sound .ensures) (not-false _ (c .before .if1 .left)), c .number-count .ensures ∙ ap (λ (r : Signature). numberCount (r .numbers)) row)
 
 is-closed-requires : tie.Need-is-closed-requires
-is-closed-requires c κs = (c .before .before .before .before .before .before .pre, c .number-field .ensures .1)
+is-closed-requires c κs = (c .before .before .before .before .before .before .pre, c .field-count .ensures .1)
 
 no-step-requires-2 : tie.Need-no-step-requires-2
 no-step-requires-2 c κs = search needs
 
 returns-2 : tie.Need-returns-2
-returns-2 c = as-open _ _ (c .before .before .before .before .before .before .is-sound .ensures) (needed (c .before .before .before .before .before .before .before .before .before .args .kind) (c .before .before .before .before .before .before .before .signature-of .ensures) (c .before .before .before .before .number-count .ensures) (c .before .before .before .number-field .ensures .0)) (c .before .before .is-closed .ensures) (not-true _ (c .before .if2 .taken)) (c .no-step2 .ensures)
+returns-2 c = as-open _ _ (c .before .before .before .before .before .before .is-sound .ensures) (c .before .before .before .field-count .ensures .0) (c .before .before .is-closed .ensures) (not-true _ (c .before .if2 .taken)) (c .no-step2 .ensures)
 
 region-given-requires : tie.Need-region-given-requires
 region-given-requires c κs = search needs
@@ -64,7 +63,7 @@ assemble-requires c κs = search needs
 returns-3 : tie.Need-returns-3
 returns-3 c =
     let p = c .before .before .before .before .before .before .before .before .before in
-    as-good _ _ (p .before .before .before .is-sound .ensures) (needed (p .before .before .before .before .before .before .args .kind) (p .before .before .before .before .signature-of .ensures) (p .before .number-count .ensures) (p .number-field .ensures .0)) (c .before .before .before .before .before .before .before .before .is-closed .ensures)
+    as-good _ _ (p .before .before .before .is-sound .ensures) (p .field-count .ensures .0) (c .before .before .before .before .before .before .before .before .is-closed .ensures)
     (not-false _ (p .before .before .if1 .left)) (not-false _ (c .before .before .before .before .before .before .before .if2 .left)) (p .before .before .before .before .signature-of .ensures) (c .before .before .before .before .before .before .region-given .ensures) (c .before .before .before .before .before .region-of .ensures)
     (c .before .before .before .step-inputs .ensures) (c .before .before .step-numbers .ensures) (c .before .space-at .ensures) (c .assemble .ensures)
 
@@ -77,7 +76,7 @@ step-as-spec =
     no-step-requires
     returns
     number-count-requires
-    number-field-requires
+    field-count-requires
     is-closed-requires
     no-step-requires-2
     returns-2

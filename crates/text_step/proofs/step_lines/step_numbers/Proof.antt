@@ -6,7 +6,7 @@ use lib.ListN.{length, getD, length-set}
 use Rattle.filter.specs.Limits.{mostNumbers}
 use Rattle.filter.specs.Signature.{numbersOf}
 use Rattle.filter.specs.Steps.{noNumber}
-use Rattle.filter.proofs.CurveNumbers.{numbers-few}
+use Rattle.filter.proofs.FewNumbers.{numbers-few}
 use Rattle.text_field.specs.Split.{split}
 use Rattle.text_field.specs.Field.{numeralOf}
 use Rattle.text_step.specs.ManyFields.{padded}

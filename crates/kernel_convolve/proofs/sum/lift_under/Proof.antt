@@ -1,0 +1,49 @@
+-- `kernel_convolve::sum::lift_under` meets its contract: the three products. Assumes nothing.
+use mathlib.Core.Path.{ap, ap₂, _∙_}
+use Prim.Native.Nat.{ℕ, _+_, _-_, _*_, _/_}
+use native.Mathlib.Omega.{arith}
+use borrow.Author.Needs.{needs}
+use Rattle.kernel_convolve.proofs.sum.lift_under.Statement.{statement}
+use Rattle.kernel_convolve.proofs.sum.lift_under.Tie as tie
+
+scaled-requires : tie.Need-scaled-requires
+scaled-requires c κs = search needs
+
+scaled-requires-2 : tie.Need-scaled-requires-2
+scaled-requires-2 c κs = search needs
+
+add-less : tie.Need-add-less
+add-less c = search needs
+
+less-requires : tie.Need-less-requires
+less-requires c κs = search needs
+
+times-requires : tie.Need-times-requires
+times-requires c κs = search needs
+
+add-result : tie.Need-add-result
+add-result c = search needs
+
+returns : tie.Need-returns
+returns c =
+    let less = c .before in
+    let right = less .before in
+    let left = right .before in
+    let s = left .before .args in (
+      ap (λ (u : ℕ). (u + 65535) / 65536)
+          (c .times .ensures .0 ∙ ap (λ (u : ℕ). s .d * u) (less .less .ensures)
+          ∙ ap₂ (λ (u v : ℕ). s .d * (u - (v + 32768))) (left .scaled .ensures .0) (right .scaled2 .ensures .0)),
+      omega (arith, c .times .ensures .1),
+    )
+
+pub lift-under-spec : {M : Type 1} → statement M
+lift-under-spec =
+    tie.close
+    (tie.spec
+    scaled-requires
+    scaled-requires-2
+    add-less
+    less-requires
+    times-requires
+    add-result
+    returns)

@@ -1,0 +1,3 @@
+-- Laws that the proofs of the kernels cite.
+pub mod ExtendedRows
+pub mod ConvolvedLines

@@ -1,0 +1,3 @@
+-- What the crate's own steps cite.
+pub mod Lanes
+pub mod Taps
