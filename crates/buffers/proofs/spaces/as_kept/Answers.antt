@@ -1,0 +1,6 @@
+-- `buffers::spaces::as_kept` meets its contract. Assumes nothing.
+use borrow.Author.Rules.{rules}
+use Rattle.buffers.proofs.spaces.as_kept.Goals as goal
+
+pub returns : goal.returns
+returns c = rw c.kept_space-space.ensures

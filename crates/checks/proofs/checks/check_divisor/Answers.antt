@@ -1,0 +1,13 @@
+-- `checks::checks::check_divisor` meets its contract. Assumes nothing.
+use mathlib.Core.Path.{sym, ◌∙◌}
+use borrow.Author.Rules.{rules}
+use Rattle.checks.proofs.checks.check_divisor.Reads as reads
+use Rattle.checks.proofs.checks.check_divisor.Lts as lts
+use Rattle.checks.proofs.checks.divides.Reads as divides-reads
+use Rattle.checks.proofs.checks.check_divisor.Goals as goal
+
+pub returns-then-divides : goal.returns-then-divides
+returns-then-divides c = let e = sym c.divides.ensures ∙ c.if-divides.true in rw e
+
+pub returns : goal.returns
+returns c = let e = sym c.divides.ensures ∙ c.if-divides.false in rw e

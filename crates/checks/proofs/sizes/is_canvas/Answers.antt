@@ -1,0 +1,6 @@
+-- `checks::sizes::is_canvas` meets its contract, test by test. Assumes nothing.
+use borrow.Author.Rules.{rules}
+use Rattle.checks.proofs.sizes.is_canvas.Goals as goal
+
+pub returns : goal.returns
+returns c = rw (c.both-3.ensures, c.both-2.ensures, c.both.ensures)

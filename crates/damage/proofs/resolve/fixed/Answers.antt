@@ -1,0 +1,6 @@
+-- `damage::resolve::fixed` meets its contract: a refused number has no units. Assumes nothing.
+use borrow.Author.Rules.{rules}
+use Rattle.damage.proofs.resolve.fixed.Goals as goal
+
+pub returns-in-Refused : goal.returns-in-Refused
+returns-in-Refused c = rw c.in-Refused.is

@@ -1,0 +1,15 @@
+use Prim.Native.Nat.{◌-◌, ◌≤◌}
+use mathlib.Core.Path.{◌≡◌, refl, ◌∙◌}
+use native.Mathlib.Omega.{arith}
+use lib.ListN.{length}
+use Rattle.buffers.specs.Shown.{shown}
+use Rattle.draw_convolve.specs.Staged.{Staged}
+use Rattle.draw_convolve.proofs.StagedRows.{staged-none, staged-more}
+use Rattle.draw_convolve.proofs.stage.stage_rows.Reads as reads
+use Rattle.draw_convolve.proofs.stage.stage_rows.Lts as lts
+use Rattle.draw_convolve.proofs.stage.stage_row.Reads as stage-row-reads
+use Rattle.draw_convolve.proofs.stage.stage_rows.Given as goal
+
+abbrev pub invariant-loop-y : goal.invariant-loop-y
+invariant-loop-y l =
+    (l.from ≤ l.y) × (l.y ≤ l.to) × (length l.scratch ≡ length l.initial.scratch) × Staged l.context.w l.preserve (shown l.context l.source l.workspace l.input) l.from l.y l.scratch

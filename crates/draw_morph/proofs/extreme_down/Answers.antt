@@ -1,0 +1,20 @@
+-- `draw_morph::extreme_down` meets its contract: the lines of a strip are its rows. Assumes nothing.
+use Prim.Native.Nat.{ℕ, ◌+◌, ◌-◌, ◌*◌, ◌/◌, ◌≤◌}
+use mathlib.Core.Path.{◌≡◌, sym}
+use mathlib.Core.Logic.{inl, ⊎_elim}
+use native.Mathlib.Omega.{arith}
+use borrow.Author.Rules.{rules}
+use Rattle.draw_window.proofs.StripRows.{whole-pixels}
+use Rattle.draw_morph.proofs.ExtremeBanded.{worked-extremes}
+use Rattle.draw_morph.proofs.extreme_down.Goals as goal
+
+pub extreme_lines-here-requires : goal.extreme_lines-here-requires
+extreme_lines-here-requires c = (omega arith, omega arith, inl (omega arith), omega arith, omega arith, omega arith)
+
+pub returns : goal.returns
+returns c =
+    let a = c.args in
+    let r = c.extreme_lines-here.result in
+    let K = c.extreme_lines-here.ensures in
+    let e = whole-pixels r a.half K.place in
+    (rw e (worked-extremes _ _ _ _ _ _ _ _ _ _ K), ⊎_elim (λ z. omega arith) (λ z. omega arith) K.place)

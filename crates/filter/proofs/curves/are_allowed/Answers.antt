@@ -1,0 +1,6 @@
+-- `filter::curves::are_allowed` meets its contract: all four channels. Assumes nothing.
+use borrow.Author.Rules.{rules}
+use Rattle.filter.proofs.curves.are_allowed.Goals as goal
+
+pub returns : goal.returns
+returns c = cc

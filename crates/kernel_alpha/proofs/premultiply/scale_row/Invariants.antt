@@ -1,0 +1,12 @@
+use mathlib.Core.Path.{◌≡◌, ◌∙◌, ap}
+use Prim.Native.Nat.{ℕ, ◌-◌, ◌≤◌, ◌<◌}
+use lib.ListN.{length, get_or}
+use native.Mathlib.Omega.{arith}
+use borrow.Author.Rules.{rules}
+use Rattle.pixel.specs.Alpha.{premultiplied}
+use Rattle.window.specs.Store.{Filled}
+use Rattle.window.proofs.Store.{filled_none, filled_more}
+use Rattle.kernel_alpha.proofs.premultiply.scale_row.Given as goal
+
+abbrev pub invariant-loop-i : goal.invariant-loop-i
+invariant-loop-i l = (l.i ≤ length l.initial.d) × (l.i-end ≡ length l.initial.d) × Filled (λ j. premultiplied (get_or l.initial.d j 0) (get_or l.f j 0)) 0 l.i l.initial.d l.d

@@ -1,0 +1,13 @@
+use mathlib.Core.Path.{◌≡◌}
+use Prim.Native.Nat.{◌-◌, ◌≤◌, ◌<◌}
+use lib.ListN.{length}
+use native.Mathlib.Omega.{arith}
+use borrow.Author.Rules.{rules}
+use Rattle.window.specs.Store.{Filled}
+use Rattle.window.proofs.Store.{filled_none, filled_more}
+use Rattle.kernel_alpha.specs.Code.{reciprocal}
+use Rattle.kernel_alpha.proofs.UnpremultiplyByProduct.{unpremultiply-table-of}
+use Rattle.kernel_alpha.proofs.unpremultiply.prepare.Given as goal
+
+abbrev pub invariant-loop-i : goal.invariant-loop-i
+invariant-loop-i l = (l.i ≤ 512) × Filled reciprocal 0 l.i l.initial.table l.table

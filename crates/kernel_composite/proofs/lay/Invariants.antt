@@ -1,0 +1,12 @@
+use mathlib.Core.Path.{◌≡◌, refl}
+use Prim.Native.Nat.{◌-◌, ◌*◌, ◌≤◌}
+use native.Mathlib.Omega.{arith}
+use borrow.Author.Rules.{rules}
+use Rattle.window.specs.Store.{Filled}
+use Rattle.window.proofs.Store.{filled_none}
+use Rattle.kernel_composite.specs.Code.{blended, row}
+use Rattle.kernel_composite.proofs.BytePairs.{weighs, blends, pair-more, row-even, row-odd}
+use Rattle.kernel_composite.proofs.lay.Given as goal
+
+abbrev pub invariant-loop-j : goal.invariant-loop-j
+invariant-loop-j l = (l.j ≤ 2 * l.n) × Filled (blended l.a (λ _. 255) l.b (row l.g)) 0 (2 * l.j) l.initial.dst l.dst

@@ -1,0 +1,13 @@
+use mathlib.Core.Path.{◌≡◌, ap}
+use Prim.Native.Nat.{ℕ, ◌+◌, ◌-◌, ◌*◌, ◌≤◌}
+use native.Mathlib.Omega.{arith}
+use lib.ListN.{length, get_or}
+use Rattle.pixel.specs.Bytes.{pixel_at, Painted}
+use Rattle.pixel.proofs.PaintedRows.{pixel-same, painted-none, painted-more}
+use Rattle.kernel_convolve.specs.Code.{with_alpha}
+use Rattle.kernel_convolve.proofs.FinishedRows.{painted-alpha}
+use borrow.Author.Rules.{rules}
+use Rattle.kernel_convolve.proofs.finish.put_alphas.Given as goal
+
+abbrev pub invariant-loop-x : goal.invariant-loop-x
+invariant-loop-x l = (l.x ≤ l.n) × Painted (λ (z : ℕ). with_alpha (get_or l.lines (l.own + 4 * z) 0) (pixel_at l.initial.d (4 * z))) 0 0 l.x l.initial.d l.d

@@ -1,0 +1,25 @@
+-- `kernel_fold::fold::fold_shifted` meets its contract: each turn stores one byte more of the fold. Assumes nothing.
+use Prim.Native.Nat.{◌+◌, ◌-◌, ◌≤◌}
+use mathlib.Core.Path.{◌≡◌}
+use native.Mathlib.Omega.{arith}
+use borrow.Author.Rules.{rules}
+use Rattle.window.specs.Store.{Filled}
+use Rattle.kernel_fold.specs.Operation.{operation, folded_shifted}
+use Rattle.kernel_fold.proofs.FoldedRanges.{filled-start, shifted-more}
+use Rattle.kernel_fold.proofs.fold.fold_shifted.Goals as goal
+
+pub loop-i-init : goal.loop-i-init
+loop-i-init c = (omega arith, filled-start _ _ _ _ (omega arith))
+
+pub loop-i-preserved : goal.loop-i-preserved
+loop-i-preserved c =
+    let L = c.loop-i in
+    (omega arith, shifted-more _ _ _ _ _ _ c.loop-i-test.true c.requires.1 (operation c.args.op) _ _ c.requires.2 L.invariant.1 c.extreme_byte.ensures)
+
+pub shape_of-buf : goal.shape_of-buf
+shape_of-buf c = c.loop-i.invariant.1.long
+
+pub returns : goal.returns
+returns c =
+    let e : c.loop-i.i ≡ c.args.m = omega arith in
+    rw (← e) c.loop-i.invariant.1

@@ -1,0 +1,11 @@
+use mathlib.Core.Path.{◌≡◌, refl}
+use Prim.Native.Nat.{◌-◌, ◌*◌, ◌≤◌}
+use native.Mathlib.Omega.{arith}
+use borrow.Author.Rules.{rules}
+use Rattle.pixel.specs.Bytes.{pixel_at, Painted}
+use Rattle.pixel.proofs.PaintedRows.{painted-none, painted-more}
+use Rattle.kernel_matrix.specs.Code.{by_rows}
+use Rattle.kernel_matrix.proofs.matrix.channels_row.Given as goal
+
+abbrev pub invariant-loop-x : goal.invariant-loop-x
+invariant-loop-x l = (l.x ≤ l.n) × Painted (λ z. by_rows l.m (pixel_at l.src (4 * z))) 0 0 l.x l.initial.dst l.dst

@@ -1,0 +1,12 @@
+use mathlib.Core.Path.{◌≡◌, ◌∙◌, ap}
+use Prim.Native.Nat.{◌+◌, ◌-◌, ◌*◌, ◌≤◌}
+use native.Mathlib.Omega.{arith}
+use borrow.Author.Rules.{rules}
+use Rattle.pixel.specs.Bytes.{pixel_at, Painted}
+use Rattle.pixel.specs.Remap.{remapped}
+use Rattle.pixel.specs.Space.{space_maps}
+use Rattle.pixel.proofs.PaintedRows.{pixel-same, painted-none, painted-more}
+use Rattle.kernel_remap.proofs.convert_row.Given as goal
+
+abbrev pub invariant-loop-x : goal.invariant-loop-x
+invariant-loop-x l = (l.x ≤ l.count) × Painted (λ j. remapped (space_maps l.to) (pixel_at l.initial.row (4 * j))) 0 0 l.x l.initial.row l.row

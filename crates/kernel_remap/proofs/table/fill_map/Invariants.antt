@@ -1,0 +1,13 @@
+use mathlib.Core.Path.{◌∙◌}
+use Prim.Native.Nat.{◌-◌, ◌≤◌, ◌<◌}
+use lib.ListN.{length, get_or}
+use native.Mathlib.Omega.{arith}
+use borrow.Author.Rules.{rules}
+use Rattle.window.specs.Store.{Filled}
+use Rattle.window.proofs.Store.{filled_none, filled_more}
+use Rattle.pixel.specs.Space.{table_of}
+use Rattle.kernel_remap.proofs.SpaceMaps.{pair-full}
+use Rattle.kernel_remap.proofs.table.fill_map.Given as goal
+
+abbrev pub invariant-loop-c : goal.invariant-loop-c
+invariant-loop-c l = (l.c ≤ 256) × Filled (λ j. get_or (table_of l.to) j 0) 0 l.c l.initial.map l.map

@@ -1,0 +1,13 @@
+use mathlib.Core.Path.{◌≡◌, ◌∙◌, ap}
+use Prim.Native.Nat.{ℕ, ◌+◌, ◌-◌, ◌≤◌, ◌<◌}
+use lib.ListN.{length}
+use native.Mathlib.Omega.{arith}
+use Rattle.pixel.specs.Alpha.{unpremultiplied}
+use Rattle.window.specs.Store.{Filled}
+use Rattle.window.proofs.Store.{filled_none, filled_more}
+use Rattle.kernel_remap.specs.Code.{unpremultiplied_at}
+use borrow.Author.Rules.{rules}
+use Rattle.kernel_remap.proofs.table.fill_unpremultiplied.Given as goal
+
+abbrev pub invariant-loop-c : goal.invariant-loop-c
+invariant-loop-c l = (l.c ≤ l.a + 1) × (l.end ≡ l.a + 1) × Filled (unpremultiplied_at l.to l.inner l.a) 0 l.c l.initial.line l.line

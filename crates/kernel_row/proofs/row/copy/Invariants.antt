@@ -1,0 +1,8 @@
+use Rattle.std.proofs.Common.{◌-◌, ◌<◌, ◌≤◌, length, get_or, refl, arith, rules}
+use Rattle.window.specs.Store.{Filled}
+use Rattle.window.proofs.Store.{filled_none, filled_more}
+use Rattle.kernel_row.proofs.LentParts.{filled-whole}
+use Rattle.kernel_row.proofs.row.copy.Given as goal
+
+abbrev pub invariant-loop-i : goal.invariant-loop-i
+invariant-loop-i l = (l.i ≤ length l.initial.dst) × Filled (λ j. get_or l.src j 0) 0 l.i l.initial.dst l.dst

@@ -1,0 +1,23 @@
+-- `kernel_row::scan::any_exceeds` meets its contract: the marks say whether a pixel passed is not valid. Assumes nothing.
+use Rattle.std.proofs.Common.{◌≡◌, ℕ, ◌+◌, ◌-◌, ◌*◌, ◌<◌, ◌≤◌, Bool, not, refl, ap, ◌∙◌, arith, rules}
+use Rattle.pixel.specs.declared.Pixel.{Pixel}
+use Rattle.pixel.specs.Bytes.{valid?}
+use Rattle.kernel_row.specs.Code.{all_valid?, marked?}
+use Rattle.kernel_row.proofs.FirstInvalid.{all-valid-more}
+use Rattle.kernel_row.proofs.Marks.{marked-or}
+use Rattle.kernel_row.proofs.scan.any_exceeds.Goals as goal
+
+pub loop-x-init : goal.loop-x-init
+unfolding all_valid?
+loop-x-init c = (omega arith, refl)
+
+pub loop-x-preserved : goal.loop-x-preserved
+loop-x-preserved c =
+    let one = c.marks_of-marks.ensures ∙ ap (λ (p : Pixel). not (valid? p)) c.word.ensures.holds in
+    (omega arith, marked-or c.loop-x.marks c.marks_of-marks.result ∙ all-valid-more _ c.loop-x.x _ _ c.loop-x.invariant.1 one)
+
+pub returns : goal.returns
+returns c =
+    let at = c.loop-x in
+    let e : at.x ≡ c.args.n = omega arith in
+    c.marked.ensures ∙ (rw e at at.invariant.1)

@@ -1,0 +1,13 @@
+use mathlib.Core.Path.{◌≡◌, ◌∙◌, ap}
+use Prim.Native.Nat.{ℕ, ◌+◌, ◌*◌, ◌-◌, ◌/◌, ◌≤◌, ◌<◌}
+use native.Mathlib.Omega.{arith}
+use borrow.Author.Rules.{rules}
+use lib.ListN.{length, get_or}
+use Rattle.window.specs.Store.{Filled}
+use Rattle.window.proofs.Store.{filled_none, filled_more}
+use Rattle.kernel_sums.proofs.LinesApart.{line-none, line-more, line-apart}
+use Rattle.kernel_sums.proofs.sums.slide_line.Given as goal
+
+abbrev pub invariant-loop-i : goal.invariant-loop-i
+invariant-loop-i l =
+    (l.i ≤ l.n) × Filled (λ i. get_or l.initial.sums i 0 + get_or l.initial.buf (l.p + i) 0 - get_or l.initial.buf (l.q + i) 0) 0 l.i l.initial.sums l.sums × Filled (λ j. (get_or l.initial.sums (j - l.r) 0 + get_or l.initial.buf (l.p + (j - l.r)) 0 - get_or l.initial.buf (l.q + (j - l.r)) 0) / l.size) l.r (l.r + l.i) l.initial.buf l.buf

@@ -1,0 +1,21 @@
+use Prim.Native.Nat.{ℕ, ◌+◌, ◌-◌, ◌*◌, ◌/◌, ◌≤◌, ◌<◌}
+use mathlib.Core.Path.{◌≡◌, refl, ◌∙◌, ap}
+use native.Mathlib.Omega.{arith}
+use lib.ListN.{length, get_or, length-set}
+use borrow.Author.Tests.{not-false}
+use Rattle.window.specs.Window.{fold}
+use Rattle.number.specs.declared.Fixed.{Fixed}
+use Rattle.kernel_sums.proofs.SlidingSums.{fold_more}
+use Rattle.kernel_taps.specs.Taps.{exchanged, tap_at, Whole, Tap}
+use Rattle.kernel_taps.proofs.WholeTaps.{never, taps-more}
+use Rattle.kernel_taps.proofs.taps.taps_of.Given as goal
+
+abbrev pub invariant-loop-t : goal.invariant-loop-t
+invariant-loop-t l =
+    (l.t ≤ 25)
+    × ((s : ℕ) → s < l.t → Tap l.unit (get_or l.weights s 0) (tap_at l.convolution l.values l.negative s))
+    × (l.lift ≡ fold ◌+◌ 0 l.t (λ (s : ℕ). (tap_at l.convolution l.values l.negative s).below / l.unit))
+    × (l.most ≡ fold ◌+◌ 0 l.t (λ (s : ℕ). (tap_at l.convolution l.values l.negative s).above / l.unit + (tap_at l.convolution l.values l.negative s).below / l.unit))
+    × (length l.weights ≡ 25)
+    × (l.lift ≤ l.most)
+    × (l.most ≤ 514 * l.t)

@@ -1,0 +1,20 @@
+-- `kernels::convolve::values_of` meets its contract: one number more in each turn. Assumes nothing.
+use Prim.Native.Nat.{◌-◌, ◌≤◌}
+use mathlib.Core.Path.{◌≡◌}
+use native.Mathlib.Omega.{arith}
+use Rattle.kernels.proofs.PairedNumbers.{Paired, paired_none, paired-more, paired-all}
+use borrow.Author.Rules.{rules}
+use Rattle.kernels.proofs.convolve.values_of.Goals as goal
+
+pub loop-i-init : goal.loop-i-init
+loop-i-init c = (omega arith, paired_none _)
+
+pub loop-i-preserved : goal.loop-i-preserved
+loop-i-preserved c =
+    (omega (arith, c.loop-i-test.true), paired-more _ c.loop-i.i _ c.loop-i-test.true c.loop-i.invariant.1)
+
+pub returns : goal.returns
+returns c =
+    let k = c.loop-i in
+    let e : k.i ≡ 64 = omega (arith, c.loop-i-test.false, k.invariant.0) in
+    paired-all _ _ (rw (← e) k.invariant.1)

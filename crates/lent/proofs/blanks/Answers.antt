@@ -1,0 +1,6 @@
+-- `lent::blanks` meets its contract: the blank step at every place. Assumes nothing.
+use borrow.Author.Rules.{rules}
+use Rattle.lent.proofs.blanks.Goals as goal
+
+pub returns : goal.returns
+returns c = rw c.blank-step.ensures

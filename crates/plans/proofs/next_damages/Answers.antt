@@ -1,0 +1,48 @@
+-- `plans::next_damages` meets its contract: an accepted step has its rectangle. Assumes nothing.
+use mathlib.Core.Path.{◌≡◌, sym, ap, ◌∙◌}
+use Prim.Native.Nat.{ℕ, ◌+◌, ◌*◌}
+use native.Mathlib.Omega.{arith}
+use lib.ListN.{length, length-set}
+use borrow.Author.Tests.{not-false}
+use Rattle.filter.specs.declared.Input.TheVariants.{Source}
+use Rattle.filter.specs.declared.Rect.{Rect}
+use Rattle.filter.specs.Limits.{longest_side}
+use Rattle.filter.specs.Answers.{accepted?}
+use Rattle.damage.specs.InputRects.{rect_of, AllWithin}
+use Rattle.checks.proofs.Acceptance.{accepted-step}
+use Rattle.damage.proofs.DamagesSoFar.{within_more}
+use Rattle.plans.proofs.Rects.{more_within}
+use borrow.Author.Rules.{rules}
+use Rattle.plans.proofs.next_damages.Goals as goal
+
+pub returns-then-not-is_accepted : goal.returns-then-not-is_accepted
+returns-then-not-is_accepted c = (omega (arith, c.requires.n_lt_most_steps.3), c.requires.rects_len.0, c.requires.rects_len.1)
+
+pub bounds-region-requires : goal.bounds-region-requires
+bounds-region-requires c =
+    let a = c.args in
+    let A = accepted-step a.w a.h a.n a.step (ap accepted? (sym c.check_step.ensures) ∙ sym c.is_accepted.ensures ∙ not-false _ c.if-not-is_accepted.false) in
+    (omega (arith, A.region.right, c.requires.n_lt_most_steps.1), omega (arith, A.region.bottom, c.requires.n_lt_most_steps.2))
+
+pub damage_of-rect-requires : goal.damage_of-rect-requires
+damage_of-rect-requires c =
+    let a = c.args in
+    let A = accepted-step a.w a.h a.n a.step (ap accepted? (sym c.check_step.ensures) ∙ sym c.is_accepted.ensures ∙ not-false _ c.if-not-is_accepted.false) in
+    (rw c.resolve-made.ensures A.numbers.shape, c.requires.rects_len.1, c.requires.n_lt_most_steps.1, c.requires.n_lt_most_steps.2)
+
+pub with_rect-requires : goal.with_rect-requires
+with_rect-requires c =
+    let a = c.args in
+    (c.requires.n_lt_most_steps.0, c.requires.n_lt_most_steps.3, within_more a.w a.h c.damage_of-rect.result c.requires.n_lt_most_steps.1 c.requires.n_lt_most_steps.2 c.damage_of-rect.ensures.1)
+
+pub returns : goal.returns
+unfolding rect_of
+returns c =
+    let a = c.args in
+    let D = c.damage_of-rect in
+    let E = c.with_rect.ensures in
+    let z = within_more a.w a.h D.result c.requires.n_lt_most_steps.1 c.requires.n_lt_most_steps.2 D.ensures.1 in (
+      omega (arith, E.count, E.small, c.requires.n_lt_most_steps.3),
+      ap length E.rects ∙ length-set a.damages.rects a.n D.result ∙ c.requires.rects_len.0,
+      rw E.rects (more_within longest_side longest_side a.changed (c.requires.rects_len.1.each Source) a.n D.result a.damages.rects (omega (arith, c.requires.n_lt_most_steps.0, c.requires.rects_len.0)) z c.requires.rects_len.1),
+    )
