@@ -1,4 +1,4 @@
-//! Links the proved library, `../target/staticlib/libcapi.a`, where the feature `library` asks for it.
+//! Links the proved library, `../crates/capi/out/libcapi.a`, where the feature `library` asks for it.
 
 use std::path::Path;
 
@@ -8,11 +8,11 @@ fn main() {
         return;
     }
     let package = std::env::var("CARGO_MANIFEST_DIR").expect("set by cargo");
-    let folder = Path::new(&package).join("../target/staticlib");
+    let folder = Path::new(&package).join("../crates/capi/out");
     let archive = folder.join("libcapi.a");
     println!("cargo:rerun-if-changed={}", archive.display());
     if !archive.exists() {
-        panic!("{} is missing: build it by `rt staticlib capi`", archive.display());
+        panic!("{} is missing: `rt lib` in crates/capi makes it", archive.display());
     }
     println!("cargo:rustc-link-search=native={}", folder.display());
     println!("cargo:rustc-link-lib=static=capi");

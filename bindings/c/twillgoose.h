@@ -1,6 +1,6 @@
 /* Twillgoose: sheets of SVG filter steps drawn into buffers that the caller lends.
  *
- * Link target/staticlib/libcapi.a, which `rt staticlib capi` writes.
+ * Link crates/capi/out/libcapi.a, which `rt lib` in crates/capi writes.
  *
  * The rules have a number, TWILLGOOSE_RULES here and twillgoose_rules() in the library, which rises whenever an answer or
  * a pixel changes: compare pictures only if both were drawn under the same number.

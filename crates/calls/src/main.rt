@@ -6,6 +6,10 @@ ghost use Rattle.std.specs.Prelude.{◌≡◌, ◌+◌, ◌≤◌, ◌<◌, leng
 
 use filter::{Answer, Call, Region, Sheet};
 use lines::draw_lines;
+use std::fs::File;
+use std::io;
+use std::io::{ErrorKind, Read};
+use std::rt::Files;
 use tables::content::{is_zero, sum};
 use tables::field::hex;
 use text::reader::scan;
@@ -23,63 +27,61 @@ struct Entry {
     show: u8,
 }
 
-fn print_word(w: &[u8]) {
-    io::write_all(1, w);
+fn print_word(rt: &impl Print, w: &[u8]) -> io::Result<()> {
+    rt.write_all(w)
 }
 
-fn print_number(n: u64) {
-    io::write_all(1, b" ");
-    io::print_decimal(1, n);
+fn print_number(rt: &impl Print, n: u64) -> io::Result<()> {
+    print!(rt; " {n}")
 }
 
-fn end_line() {
-    io::write_all(1, b"\n");
+fn end_line(rt: &impl Print) -> io::Result<()> {
+    println!(rt)
 }
 
 // The end of a line: what a call left in the workspace and in the scratch.
 
 // Kept, or cleared to zeros, or changed.
-fn print_change(before: &[u8], after: &[u8], cleared: bool) {
-    if check::same(before, after) {
-        print_word(b" kept");
-        return;
+fn print_change(rt: &impl Print, before: &[u8], after: &[u8], cleared: bool) -> io::Result<()> {
+    if before == after {
+        return print_word(rt, b" kept");
     }
     if cleared {
-        print_word(b" cleared");
-        return;
+        return print_word(rt, b" cleared");
     }
-    print_word(b" changed");
+    print_word(rt, b" changed")
 }
 
 // Byte i of a layer: as pixels in hex, or alphas alone.
-fn print_byte(show: u8, i: usize, x: u8) {
+fn print_byte(rt: &impl Print, show: u8, i: usize, x: u8) -> io::Result<()> {
     if show == 120 {
         if i % 4 == 0 {
-            print_word(b" ");
+            print_word(rt, b" ")?;
         }
-        io::print_hex(1, x as u64, 2);
-        return;
+        return print!(rt; "{x:02x}");
     }
     if i % 4 == 3 {
-        print_number(x as u64);
+        print_number(rt, x as u64)?;
     }
+    Ok(())
 }
 
-fn print_bytes(show: u8, layer: &[u8]) {
+fn print_bytes(rt: &impl Print, show: u8, layer: &[u8]) -> io::Result<()> {
     let n = layer.len();
     for i in 0..n {
-        print_byte(show, i, layer[i]);
+        print_byte(rt, show, i, layer[i])?;
     }
+    Ok(())
 }
 
-fn print_sums(workspace: &[u8], layer: &[u8]) {
-    print_number(sum(workspace));
-    print_number(layer.len() as u64);
-    print_number(sum(layer));
+fn print_sums(rt: &impl Print, workspace: &[u8], layer: &[u8]) -> io::Result<()> {
+    print_number(rt, sum(workspace))?;
+    print_number(rt, layer.len() as u64)?;
+    print_number(rt, sum(layer))
 }
 
 // s: sums; x: the layer's pixels in hex; a: its alphas; any other: nothing.
-fn print_layer(entry: Entry, workspace: &[u8]) {
+fn print_layer(rt: &impl Print, entry: Entry, workspace: &[u8]) -> io::Result<()> {
     let layer = render::views::layer(
         entry.width,
         entry.height,
@@ -89,17 +91,17 @@ fn print_layer(entry: Entry, workspace: &[u8]) {
     );
     let show = entry.show;
     match show {
-        115 => print_sums(workspace, layer),
-        120 | 97 => print_bytes(show, layer),
-        _ => {}
+        115 => print_sums(rt, workspace, layer),
+        120 | 97 => print_bytes(rt, show, layer),
+        _ => Ok(()),
     }
 }
 
 // Lines rendered or redrawn, on buffers of their own, and the line of that.
 
-fn print_answer(answer: Answer) {
-    print_number(checks::answers::number(answer));
-    print_number(checks::answers::place(answer) as u64);
+fn print_answer(rt: &impl Print, answer: Answer) -> io::Result<()> {
+    print_number(rt, checks::answers::number(answer))?;
+    print_number(rt, checks::answers::place(answer) as u64)
 }
 
 fn call_of(entry: Entry) -> Call {
@@ -110,7 +112,14 @@ fn call_of(entry: Entry) -> Call {
     Call::Render
 }
 
-fn run(entry: Entry, text: &[u8], source: &[u8], workspace: &mut [u8], scratch: &mut [u8]) {
+fn run(
+    rt: &impl Print,
+    entry: Entry,
+    text: &[u8],
+    source: &[u8],
+    workspace: &mut [u8],
+    scratch: &mut [u8],
+) -> io::Result<()> {
     let drawn = draw_lines(
         Form::Lines,
         text,
@@ -123,17 +132,18 @@ fn run(entry: Entry, text: &[u8], source: &[u8], workspace: &mut [u8], scratch: 
     );
     let answer = drawn.answer;
     if entry.redraw {
-        print_word(b" redraw");
-        print_answer(answer);
-        print_number(drawn.count as u64);
+        print_word(rt, b" redraw")?;
+        print_answer(rt, answer)?;
+        print_number(rt, drawn.count as u64)
     } else {
-        print_word(b" render");
-        print_answer(answer);
+        print_word(rt, b" render")?;
+        print_answer(rt, answer)
     }
 }
 
 // The call is made on copies: layers of the workspace, spare of the scratch.
 fn print_on(
+    rt: &impl Print,
     entry: Entry,
     text: &[u8],
     source: &[u8],
@@ -141,20 +151,27 @@ fn print_on(
     scratch: &[u8],
     layers: &mut [u8],
     spare: &mut [u8],
-)
+) -> io::Result<()>
     requires { (length workspace.now ≡ length layers.old) × (length scratch.now ≡ length spare.old) }
 {
     kernel_row::row::copy(workspace, layers);
     kernel_row::row::copy(scratch, spare);
-    run(entry, text, source, layers, spare);
-    print_change(workspace, &layers[..], false);
-    print_change(scratch, &spare[..], is_zero(&spare[..]));
-    print_layer(entry, &layers[..]);
-    end_line();
+    run(rt, entry, text, source, layers, spare)?;
+    print_change(rt, workspace, &layers[..], false)?;
+    print_change(rt, scratch, &spare[..], is_zero(&spare[..]))?;
+    print_layer(rt, entry, &layers[..])?;
+    end_line(rt)
 }
 
 // One call, a redraw or a render, and its line.
-fn print_call(entry: Entry, text: &[u8], source: &[u8], workspace: &[u8], scratch: &[u8])
+fn print_call(
+    rt: &impl Print,
+    entry: Entry,
+    text: &[u8],
+    source: &[u8],
+    workspace: &[u8],
+    scratch: &[u8],
+) -> io::Result<()>
     requires { (length workspace.now ≤ 16384) × (length scratch.now ≤ 4096) }
 {
     let a = workspace.len();
@@ -162,6 +179,7 @@ fn print_call(entry: Entry, text: &[u8], source: &[u8], workspace: &[u8], scratc
     let mut layers = [0u8; 16384];
     let mut spare = [0u8; 4096];
     print_on(
+        rt,
         entry,
         text,
         source,
@@ -169,7 +187,7 @@ fn print_call(entry: Entry, text: &[u8], source: &[u8], workspace: &[u8], scratc
         scratch,
         &mut layers[..a],
         &mut spare[..b],
-    );
+    )
 }
 
 // The entries of data/calls.in: a head, step lines, and the bytes of source, workspace and scratch.
@@ -201,26 +219,33 @@ fn entry_of(head: &[u8], redraw: bool) -> Entry
     }
 }
 
-fn print_refusal(name: &[u8], place: usize) {
-    print_word(name);
-    print_number(place as u64);
-    end_line();
+fn print_refusal(rt: &impl Print, name: &[u8], place: usize) -> io::Result<()> {
+    print_word(rt, name)?;
+    print_number(rt, place as u64)?;
+    end_line(rt)
 }
 
-fn print_entry(head: &[u8], text: &[u8], source: &[u8], workspace: &[u8], scratch: &[u8])
+fn print_entry(
+    rt: &impl Print,
+    head: &[u8],
+    text: &[u8],
+    source: &[u8],
+    workspace: &[u8],
+    scratch: &[u8],
+) -> io::Result<()>
     requires { (length head.now ≡ 206) × (length workspace.now ≤ 16384) × (length scratch.now ≤ 4096) }
 {
     let reading = scan(Form::Lines, text, Sheet::STEPS);
-    print_word(&head[..12]);
+    print_word(rt, &head[..12])?;
     let answer = reading.answer;
     match answer {
         ReadAnswer::Done => {
-            print_call(entry_of(head, false), text, source, workspace, scratch);
-            print_word(&head[..12]);
-            print_call(entry_of(head, true), text, source, workspace, scratch);
+            print_call(rt, entry_of(head, false), text, source, workspace, scratch)?;
+            print_word(rt, &head[..12])?;
+            print_call(rt, entry_of(head, true), text, source, workspace, scratch)
         }
-        ReadAnswer::Line(n) => print_refusal(b" text 15", n),
-        ReadAnswer::Records => print_refusal(b" text 21", 0),
+        ReadAnswer::Line(n) => print_refusal(rt, b" text 15", n),
+        ReadAnswer::Records => print_refusal(rt, b" text 21", 0),
     }
 }
 
@@ -234,16 +259,33 @@ fn long(head: &[u8], i: usize, most: usize) -> usize
 }
 
 // Takes the rest of an entry apart: a bytes of step lines, b of the source, c of the workspace, d of the scratch.
-fn print_parts(head: &[u8], rest: &[u8], a: usize, b: usize, c: usize, d: usize)
+fn print_parts(
+    rt: &impl Print,
+    head: &[u8],
+    rest: &[u8],
+    a: usize,
+    b: usize,
+    c: usize,
+    d: usize,
+) -> io::Result<()>
     requires { (length head.now ≡ 206) × (length rest.now ≡ a + b + c + d) × (c ≤ 16384) × (d ≤ 4096) }
 {
     let e = a + b;
     let f = e + c;
-    print_entry(head, &rest[..a], &rest[a..e], &rest[e..f], &rest[f..]);
+    print_entry(rt, head, &rest[..a], &rest[a..e], &rest[e..f], &rest[f..])
+}
+
+// Fills the buffer; false where the file ends before.
+fn fill(file: &mut impl Read, buffer: &mut [u8]) -> io::Result<bool> {
+    match file.read_exact(buffer) {
+        Ok(()) => Ok(true),
+        Err(e) if e.kind() == ErrorKind::UnexpectedEof => Ok(false),
+        Err(e) => Err(e),
+    }
 }
 
 // Reads what follows a head and prints its lines; false where the file is too short.
-fn print_rest(file: i32, head: &[u8]) -> bool
+fn print_rest(rt: &impl Print, file: &mut impl Read, head: &[u8]) -> io::Result<bool>
     requires { length head.now ≡ 206 }
 {
     let a = long(head, 8, 8192);
@@ -252,33 +294,32 @@ fn print_rest(file: i32, head: &[u8]) -> bool
     let d = long(head, 11, 4096);
     let n = a + b + c + d;
     let mut rest = [0u8; 30720];
-    let got = io::read_full(file, &mut rest[..n]);
-    if got != n {
-        return false;
+    if !fill(file, &mut rest[..n])? {
+        return Ok(false);
     }
-    print_parts(head, &rest[..n], a, b, c, d);
-    true
+    print_parts(rt, head, &rest[..n], a, b, c, d)?;
+    Ok(true)
 }
 
 // Reads one entry and prints its lines; false at the end.
-fn next_entry(file: i32) -> bool {
+fn next_entry(rt: &impl Print, file: &mut impl Read) -> io::Result<bool> {
     let mut head = [0u8; 206];
-    let got = io::read_full(file, &mut head);
-    if got < 206 {
-        return false;
+    if !fill(file, &mut head)? {
+        return Ok(false);
     }
-    print_rest(file, &head)
+    print_rest(rt, file, &head)
 }
 
-fn print_entries() {
-    let file = os::open_read(b"calls.in");
-    let mut left: u64 = 1000000;
-    while left > 0 && next_entry(file) {
-        left -= 1;
+fn print_entries(rt: &(impl Files + Print)) -> io::Result<()> {
+    let mut file = File::open(rt, "calls.in")?;
+    for _ in 0..1000000 {
+        if !next_entry(rt, &mut file)? {
+            break;
+        }
     }
-    libc::close(file);
+    Ok(())
 }
 
-fn main() {
-    print_entries();
+fn main(rt: HostRuntime) -> io::Result<()> {
+    print_entries(&rt)
 }

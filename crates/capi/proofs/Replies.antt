@@ -1,7 +1,6 @@
 -- What the answers to lines come to. Assumes nothing.
 use Prim.Native.Nat.{ℕ}
 use mathlib.Core.Path.{◌≡◌, refl, ap, ◌∙◌}
-use mathlib.Core.List.{List}
 use Rattle.filter.specs.declared.Answer.{Answer}
 use Rattle.filter.specs.Answers.{number_of, place_of}
 use Rattle.text.specs.declared.ReadAnswer as A

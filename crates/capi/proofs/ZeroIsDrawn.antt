@@ -5,7 +5,7 @@ use mathlib.Core.Bool.{false}
 use mathlib.Core.Logic.{⊎_elim}
 use lib.Dec.{eqb}
 use Rattle.filter.specs.declared.Answer.{Answer}
-use Rattle.filter.specs.Answers.{number_of, accepted?}
+use Rattle.filter.specs.Answers.{accepted?}
 use Rattle.text.specs.declared.ReadAnswer.{ReadAnswer}
 use Rattle.text.specs.declared.ReadAnswer.TheVariants.{Done, Line, Records}
 use Rattle.lines.specs.Lines.{GivenText, reading_in, answer_in}

@@ -8,19 +8,19 @@ use Rattle.filter.specs.Answers.{number_of, place_of}
 use Rattle.text.specs.declared.Form.TheVariants as F
 use Rattle.text.specs.declared.ReadAnswer as A
 use Rattle.text.specs.declared.ReadAnswer.TheVariants.{Done, Line, Records}
-use Rattle.layers.specs.Given.{Slice}
+use Rattle.layers.specs.Given.{Slice, SliceMut}
 use Rattle.render.specs.Promise.{if_accepted, zeros}
 use Rattle.lines.specs.Lines.{GivenText, given_text, reading_in, answer_in, worked_in, layers_in, RedrawsIn, ValidIn}
 use Rattle.capi.specs.declared.Redrawing.{Redrawing}
 
 -- a call by the names in an `ensures`, its steps as lines; a full render, and a redraw of a rectangle by its four numbers
-abbrev pub calling : Call → ℕ → ℕ → Slice ℕ → Slice ℕ → Slice ℕ → Slice ℕ → GivenText
+abbrev pub calling : Call → ℕ → ℕ → Slice ℕ → Slice ℕ → SliceMut ℕ → SliceMut ℕ → GivenText
 calling call w h steps source workspace scratch = given_text F.Lines steps call w h source workspace scratch
 
-abbrev pub rendering : ℕ → ℕ → Slice ℕ → Slice ℕ → Slice ℕ → Slice ℕ → GivenText
+abbrev pub rendering : ℕ → ℕ → Slice ℕ → Slice ℕ → SliceMut ℕ → SliceMut ℕ → GivenText
 rendering w h steps source workspace scratch = calling C.Render w h steps source workspace scratch
 
-abbrev pub redrawing : ℕ → ℕ → ℕ → ℕ → ℕ → ℕ → Slice ℕ → Slice ℕ → Slice ℕ → Slice ℕ → GivenText
+abbrev pub redrawing : ℕ → ℕ → ℕ → ℕ → ℕ → ℕ → Slice ℕ → Slice ℕ → SliceMut ℕ → SliceMut ℕ → GivenText
 redrawing x y columns rows w h steps source workspace scratch =
     calling (C.Redraw (record { x = x; y = y; width = columns; height = rows })) w h steps source workspace scratch
 

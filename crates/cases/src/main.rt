@@ -6,80 +6,87 @@ ghost use Rattle.std.specs.Prelude.{◌≡◌, length};
 
 use number::{Judged, Number, Range};
 use pixel::MatrixRow;
+use std::fs::File;
+use std::io;
+use std::io::{ErrorKind, Read};
+use std::rt::Files;
 use tables::field::hex;
 
-fn print_word(w: &[u8]) {
-    io::write_all(1, w);
+fn print_word(rt: &impl Print, w: &[u8]) -> io::Result<()> {
+    rt.write_all(w)
 }
 
-fn print_number(n: u64) {
-    io::write_all(1, b" ");
-    io::print_decimal(1, n);
+fn print_number(rt: &impl Print, n: u64) -> io::Result<()> {
+    print!(rt; " {n}")
 }
 
-fn end_line() {
-    io::write_all(1, b"\n");
+fn end_line(rt: &impl Print) -> io::Result<()> {
+    println!(rt)
 }
 
 // Worked by hand: P1, the way back of P2, P7 and P12 (RULES 11.1), and the numbers that are run (11.2). Then what a half between two units
 // becomes: the even one of a number, the larger one of saturate's own coefficients.
 
-fn print_byte(name: &[u8], value: u8) {
-    print_word(name);
-    print_number(value as u64);
-    end_line();
+fn print_byte(rt: &impl Print, name: &[u8], value: u8) -> io::Result<()> {
+    print_word(rt, name)?;
+    print_number(rt, value as u64)?;
+    end_line(rt)
 }
 
-fn print_row(name: &[u8], row: MatrixRow) {
-    print_word(name);
-    print_number(row.r.above);
-    print_number(row.g.above);
-    print_number(row.b.above);
-    end_line();
+fn print_row(rt: &impl Print, name: &[u8], row: MatrixRow) -> io::Result<()> {
+    print_word(rt, name)?;
+    print_number(rt, row.r.above)?;
+    print_number(rt, row.g.above)?;
+    print_number(rt, row.b.above)?;
+    end_line(rt)
 }
 
 // The answer of a number, as the end of a line.
-fn print_judged(judged: Judged) {
+fn print_judged(rt: &impl Print, judged: Judged) -> io::Result<()> {
     match judged {
         Judged::Accepted(f) => {
-            print_number(f.above);
-            print_number(f.below);
+            print_number(rt, f.above)?;
+            print_number(rt, f.below)?;
         }
         Judged::Refused(fault) => {
-            print_word(b" refused");
-            print_number(number::fault_number(fault) as u64);
+            print_word(rt, b" refused")?;
+            print_number(rt, number::fault_number(fault) as u64)?;
         }
     }
-    end_line();
+    end_line(rt)
 }
 
-fn print_decimal(name: &[u8], range: Range, z: i64) {
-    print_word(name);
-    print_judged(number::judge(range, Number::Decimal(z)));
+fn print_decimal(rt: &impl Print, name: &[u8], range: Range, z: i64) -> io::Result<()> {
+    print_word(rt, name)?;
+    print_judged(rt, number::judge(range, Number::Decimal(z)))
 }
 
-fn print_single(name: &[u8], range: Range, bits: u32) {
-    print_word(name);
-    print_judged(number::judge(range, Number::Single(number::single(bits))));
+fn print_single(rt: &impl Print, name: &[u8], range: Range, bits: u32) -> io::Result<()> {
+    print_word(rt, name)?;
+    print_judged(
+        rt,
+        number::judge(range, Number::Single(number::single(bits))),
+    )
 }
 
 // 2.5 and −3.5 units; for s of 65,036 units 0.213 · (1 − s) is 106.5.
-fn print_examples() {
-    print_byte(b"P1", pixel::alpha::premultiply(255, 128));
-    print_byte(b"P2 back", pixel::alpha::premultiply(85, 3));
-    print_row(b"P7", pixel::color_matrix::saturation_matrix(0).r);
-    print_decimal(b"P12", Range::Deviation, -1);
-    print_single(b"P12 zero", Range::Deviation, 0x80000000);
-    print_decimal(b"Run 32", Range::Deviation, 320000);
-    print_single(b"Run above 32", Range::Deviation, 0x42000001);
-    print_single(b"Run x7fc00000", Range::Deviation, 0x7fc00000);
-    print_decimal(b"Run 0.5", Range::Offset, 5000);
-    print_single(b"Tie 2.5", Range::Coefficient, 0x38200000);
-    print_single(b"Tie -3.5", Range::Coefficient, 0xb8600000);
+fn print_examples(rt: &impl Print) -> io::Result<()> {
+    print_byte(rt, b"P1", pixel::alpha::premultiply(255, 128))?;
+    print_byte(rt, b"P2 back", pixel::alpha::premultiply(85, 3))?;
+    print_row(rt, b"P7", pixel::color_matrix::saturation_matrix(0).r)?;
+    print_decimal(rt, b"P12", Range::Deviation, -1)?;
+    print_single(rt, b"P12 zero", Range::Deviation, 0x80000000)?;
+    print_decimal(rt, b"Run 32", Range::Deviation, 320000)?;
+    print_single(rt, b"Run above 32", Range::Deviation, 0x42000001)?;
+    print_single(rt, b"Run x7fc00000", Range::Deviation, 0x7fc00000)?;
+    print_decimal(rt, b"Run 0.5", Range::Offset, 5000)?;
+    print_single(rt, b"Tie 2.5", Range::Coefficient, 0x38200000)?;
+    print_single(rt, b"Tie -3.5", Range::Coefficient, 0xb8600000)?;
     print_row(
+        rt,
         b"Saturate 65036",
         pixel::color_matrix::saturation_matrix(65036).g,
-    );
+    )
 }
 
 // Numbers at every edge of every range: data/numbers.in, made by tests/number_cases.py.
@@ -109,35 +116,47 @@ fn number_of(kind: u8, bits: u64) -> Number {
     Number::Decimal(signed(bits))
 }
 
-fn print_number_case(line: &[u8])
+fn print_number_case(rt: &impl Print, line: &[u8]) -> io::Result<()>
     requires { length line.now ≡ 21 }
 {
-    io::write_all(1, &line[..20]);
+    print_word(rt, &line[..20])?;
     let bits = hex(line, 4, 16);
-    print_judged(number::judge(range_of(line[0]), number_of(line[2], bits)));
+    print_judged(
+        rt,
+        number::judge(range_of(line[0]), number_of(line[2], bits)),
+    )
+}
+
+// Fills the buffer; false where the file ends before.
+fn fill(file: &mut impl Read, buffer: &mut [u8]) -> io::Result<bool> {
+    match file.read_exact(buffer) {
+        Ok(()) => Ok(true),
+        Err(e) if e.kind() == ErrorKind::UnexpectedEof => Ok(false),
+        Err(e) => Err(e),
+    }
 }
 
 // Reads one line and prints its line; false at the end.
-fn next_number(file: i32) -> bool {
+fn next_number(rt: &impl Print, file: &mut impl Read) -> io::Result<bool> {
     let mut line = [0u8; 21];
-    let got = io::read_full(file, &mut line);
-    if got < 21 {
-        return false;
+    if !fill(file, &mut line)? {
+        return Ok(false);
     }
-    print_number_case(&line);
-    true
+    print_number_case(rt, &line)?;
+    Ok(true)
 }
 
-fn print_number_table() {
-    let file = os::open_read(b"numbers.in");
-    let mut left: u64 = 1000000;
-    while left > 0 && next_number(file) {
-        left -= 1;
+fn print_number_table(rt: &(impl Files + Print)) -> io::Result<()> {
+    let mut file = File::open(rt, "numbers.in")?;
+    for _ in 0..1000000 {
+        if !next_number(rt, &mut file)? {
+            break;
+        }
     }
-    libc::close(file);
+    Ok(())
 }
 
-fn main() {
-    print_examples();
-    print_number_table();
+fn main(rt: HostRuntime) -> io::Result<()> {
+    print_examples(&rt)?;
+    print_number_table(&rt)
 }

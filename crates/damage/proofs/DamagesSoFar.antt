@@ -1,6 +1,6 @@
 -- The redraw rectangles in code, and the loop that works them out one after another. Assumes nothing.
 use Prim.Native.Nat.{ℕ, zero, suc, ◌+◌, ◌*◌, ◌≤◌, ◌<◌}
-use mathlib.Core.Path.{◌≡◌, refl, sym, ap, ap₂, ◌∙◌, fun_ext}
+use mathlib.Core.Path.{◌≡◌, refl, ap, ap₂, ◌∙◌, fun_ext}
 use mathlib.Core.Bool.{cond}
 use mathlib.Core.List.{List, map}
 use native.Mathlib.Numerals.{add-one}
@@ -24,7 +24,7 @@ use Rattle.filter.specs.Steps.{step_at}
 use Rattle.filter.specs.Sheets.{space_of, effect_of, effects_of}
 use Rattle.filter.specs.Accepted.{Within}
 use Rattle.damage.specs.InputRects.{rect_of, AllWithin}
-use Rattle.damage.proofs.StepLaws.{get_d-none}
+use Rattle.damage.proofs.StepLaws.{get_or_none}
 use Rattle.filter.proofs.JoinedRects.{damages-within}
 use Rattle.filter.proofs.SeenInSpaces.{damage-spaces}
 use Rattle.filter.specs.Limits.{longest_side, most_pixels, most_steps}
@@ -81,7 +81,7 @@ module _ (w h : ℕ) (steps : List Step) (r : Rect) where
       each : (i : Input) → rect_of r (replicate most_steps empty) i ≡ rects 0 i
       each Source = refl
       each SourceAlpha = refl
-      each (Layer k) = get_d-none empty most_steps k
+      each (Layer k) = get_or_none empty most_steps k
 
   pub going-within : (n : ℕ) (zs : List Rect) (total : ℕ) → Going n zs total → Within w h r → AllWithin w h r zs
   going-within n zs total G k = record { each = each }

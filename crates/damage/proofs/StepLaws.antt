@@ -28,10 +28,10 @@ units-are r x y j o p q e =
     (k, rw k u.above_le, rw k u.below_le)
 
 -- nothing but d
-pub get_d-none : {A : Type 0} (d : A) (n k : ℕ) → get_or (replicate n d) k d ≡ d
-get_d-none d zero k = refl
-get_d-none d (suc n) zero = refl
-get_d-none d (suc n) (suc k) = get_d-none d n k
+pub get_or_none : {A : Type 0} (d : A) (n k : ℕ) → get_or (replicate n d) k d ≡ d
+get_or_none d zero k = refl
+get_or_none d (suc n) zero = refl
+get_or_none d (suc n) (suc k) = get_or_none d n k
 
 -- a list with the elements f i .. f (i + n - 1)
 listed_by : {A : Type 0} (f : ℕ → A) (d : A) (i n : ℕ) (v : List A) → length v ≡ n → ((k : ℕ) → k < n → get_or v k d ≡ f (i + k)) → v ≡ listed f i n
@@ -50,7 +50,7 @@ pub record Valued (f : ℕ → Fixed) (n : ℕ) (v : List Fixed) : Type 0 where
   pub rest : (k : ℕ) → n ≤ k → get_or v k no_value ≡ no_value
 
 pub valued-none : (f : ℕ → Fixed) → Valued f 0 (replicate most_numbers no_value)
-valued-none f = record { slots = refl; each = λ k l. absurd (omega (arith, l)); rest = λ k l. get_d-none no_value most_numbers k }
+valued-none f = record { slots = refl; each = λ k l. absurd (omega (arith, l)); rest = λ k l. get_or_none no_value most_numbers k }
 
 pub valued-more : (f : ℕ → Fixed) (n : ℕ) (v : List Fixed) (x : Fixed) → n < most_numbers → Valued f n v → x ≡ f n → Valued f (n + 1) (set v n x)
 valued-more f n v x l h e = record { slots = length-set v n x ∙ h.slots; each = each; rest = rest }

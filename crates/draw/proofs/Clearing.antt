@@ -6,7 +6,7 @@ use mathlib.Core.List.{List}
 use mathlib.Core.Logic.{⊎_elim}
 use native.Mathlib.Omega.{arith}
 use lib.Dec.{eqb, leb}
-use borrow.Author.Tests.{eqb-true, leb-true}
+use borrow.Author.Tests.{eq-eqb, ne_eqb, eqb-true, le-leb, lt-leb, leb-true}
 use Rattle.window.proofs.Store.{lt-or-le}
 use Rattle.pixel.specs.Alpha.{clear}
 use Rattle.pixel.specs.Bytes.{pixel_at, Painted}
@@ -36,6 +36,26 @@ covers-in w h r t x y lx ly = go _ _ _ _ refl refl refl refl t
       top = omega (arith, eqb-true r.top 0 ec);
       bottom = omega (arith, leb-true h r.bottom ed);
     }
+
+-- the tests, one after another
+module _ (w h : ℕ) (r : Rect) where
+  pub covers_left : (r.left ≡ 0 → ⊥) → false ≡ covers? w h r
+  unfolding covers?
+  covers_left a = simp (ne_eqb _ _ a)
+
+  pub covers_right : r.left ≡ 0 → r.right < w → false ≡ covers? w h r
+  unfolding covers?
+  covers_right a b = simp (eq-eqb _ _ a, lt-leb _ _ b)
+
+  pub covers_top : r.left ≡ 0 → w ≤ r.right → (r.top ≡ 0 → ⊥) → false ≡ covers? w h r
+  unfolding covers?
+  covers_top a b c = simp (eq-eqb _ _ a, le-leb _ _ b, ne_eqb _ _ c)
+
+  pub covers_bottom : r.left ≡ 0 → w ≤ r.right → r.top ≡ 0 → leb h r.bottom ≡ covers? w h r
+  unfolding covers?
+  covers_bottom a b c = simp (eq-eqb _ _ a, le-leb _ _ b, eq-eqb _ _ c)
+
+pub ruleset covering = (covers_left, covers_right, covers_top, covers_bottom)
 
 pub cleared-covered : (w h n : ℕ) (r : Rect) (d : List ℕ) → covers? w h r ≡ true → ClearedAround w h n r d d
 cleared-covered w h n r d t = record {

@@ -1,11 +1,13 @@
--- A shape that is known, by its place in the declaration or whole. Assumes nothing.
-use mathlib.Core.Path.{◌≡◌, sym, subst}
-use mathlib.Core.List.{List, [], ◌∷◌}
+-- A shape that is known, by those that it is not or whole. Assumes nothing.
+use mathlib.Core.Path.{◌≡◌, refl, sym, subst}
+use mathlib.Core.List.{List}
 use Prim.Native.Nat.{ℕ}
-use types.Run.{OneOf, miss}
-use denote.Enum.Declared.{tag_of}
-use Rattle.filter.specs.contracts.Shape.{the_type}
 use Rattle.number.specs.declared.Fixed.{Fixed}
+use Rattle.pixel.specs.declared.Convolution.{Convolution}
+use Rattle.filter.specs.declared.Input.{Input}
+use Rattle.filter.specs.declared.Map.{Map}
+use Rattle.filter.specs.declared.Pair.{Pair}
+use Rattle.filter.specs.declared.Pass.{Pass}
 use Rattle.filter.specs.declared.Rect.{Rect}
 use Rattle.filter.specs.declared.Shape.{Shape}
 use Rattle.filter.specs.declared.Shape.TheVariants as S
@@ -18,18 +20,16 @@ use Rattle.buffers.specs.Context.{DrawnIn}
 use Rattle.draw_point.specs.Kindless.{Kindless}
 
 -- flood, offset and merge: the shapes without kinds inside
-abbrev pub others : List ℕ
-others = 0 ∷ 1 ∷ 5 ∷ []
-
-pub others-kindless : (k : Shape) → OneOf others (tag_of the_type k) → Kindless k
+pub others-kindless : (k : Shape) → ((p : Pass) (i : Input) (dx dy : ℕ) → k ≡ S.Pass p i dx dy → ⊥) → ((m : Map) (i : Input) → k ≡ S.Map m i → ⊥)
+    → ((p : Pair) (i j : Input) → k ≡ S.Pair p i j → ⊥) → ((c : Convolution) (i : Input) → k ≡ S.Convolve c i → ⊥) → Kindless k
 unfolding Kindless
-others-kindless (S.Flood c) o = tt
-others-kindless (S.Offset i dx dy) o = tt
-others-kindless (S.Pass p i dx dy) o = miss others 2 tt o
-others-kindless (S.Map m i) o = miss others 3 tt o
-others-kindless (S.Pair p i j) o = miss others 4 tt o
-others-kindless (S.Merge c is) o = tt
-others-kindless (S.Convolve k i) o = miss others 6 tt o
+others-kindless (S.Flood c) a b d e = tt
+others-kindless (S.Offset i dx dy) a b d e = tt
+others-kindless (S.Pass p i dx dy) a b d e = absurd (a p i dx dy refl)
+others-kindless (S.Map m i) a b d e = absurd (b m i refl)
+others-kindless (S.Pair p i j) a b d e = absurd (d p i j refl)
+others-kindless (S.Merge c is) a b d e = tt
+others-kindless (S.Convolve k i) a b d e = absurd (e k i refl)
 
 module _ (k l : Shape) (e : k ≡ l) where
   -- what was checked of it

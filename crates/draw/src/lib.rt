@@ -98,6 +98,7 @@ pub fn draw(
 }
 
 // Whether the rectangle holds the whole canvas.
+#[tactic(auto, using(crate::proofs::Clearing::covering))]
 fn covers(rect: Rect, w: usize, h: usize) -> bool
     ensures { result ≡ covers? w h rect }
 {

@@ -1,13 +1,14 @@
 -- A blur's passes along lines: a band of each line is enough for them. Assumes nothing.
-use Prim.Native.Nat.{ℕ, zero, suc, ◌+◌, ◌-◌, ◌*◌, ◌/◌, ◌%◌, ◌≤◌, ◌<◌}
+use Prim.Native.Nat.{ℕ, ◌+◌, ◌-◌, ◌/◌, ◌%◌, ◌<◌}
 use mathlib.Core.Path.{◌≡◌, refl, sym, ap, ◌∙◌, fun_ext}
 use mathlib.Core.Bool.{Bool, true, false, cond}
 use mathlib.Core.List.{List}
-use native.Mathlib.Nat.{div-eq_of_lt, zero-add}
+use native.Mathlib.Nat.{div-eq_of_lt}
 use native.Mathlib.Omega.{arith}
 use lib.Dec.{ltb, eqb}
 use borrow.Author.Tests.{lt-ltb}
-use Rattle.window.specs.Window.{within, column, mean, box, passes_of, passes, spread}
+use Rattle.window.specs.Store.{byte_at}
+use Rattle.window.specs.Window.{within, column, mean, box, passes_of, spread}
 use Rattle.window.proofs.BandedPasses.{within_in, passes-band}
 use Rattle.kernel_blur.specs.Blurred.{Blurred}
 use Rattle.draw_window.specs.LineRules.{Worked}
@@ -51,13 +52,13 @@ spread-banded d = record {
 pub blurs-banded : (d reach : ℕ) → reach ≡ spread d → Banded (blurs d) reach reach
 blurs-banded d reach e = rw e (spread-banded d)
 
--- no passes
-pub worked-none : (d n count : ℕ) (s : List ℕ) → d < 2 → Worked (blurs d) 0 n count s s
+-- no passes: a byte of the lines stays as it is
+pub byte_without_passes : (d n count : ℕ) (s : List ℕ) (v i : ℕ) → d < 2 → v < count → byte_at s 0 n v i ≡ blurs d count (column s 0 n count i) v
 unfolding blurs passes_of column
-worked-none d n count s l = record {
-  inside = λ v i h m. rw (lt-ltb d 2 l) (sym (within_in count _ v h));
-  long = refl;
-}
+byte_without_passes d n count s v i l h = rw (lt-ltb d 2 l) (sym (within_in count _ v h))
+
+pub worked-none : (d n count : ℕ) (s : List ℕ) → d < 2 → Worked (blurs d) 0 n count s s
+worked-none d n count s l = record { inside = λ v i h m. byte_without_passes d n count s v i l h; long = refl }
 
 pub worked-passes : (d b n count : ℕ) (s s' : List ℕ) → Blurred d 0 b n count s s' → Worked (blurs d) b n count s s'
 unfolding blurs

@@ -22,6 +22,7 @@ const TILE: usize = 32 * window::SIDE;
 
 // The passes of a blur of d along the columns of count lines of n bytes at the start of a buffer. The answer is where the results start:
 // at half, or at 0 where a blur has no passes.
+#[tactic(auto, using(crate::proofs::BlurBanded::byte_without_passes))]
 fn pass_lines(
     buf: &mut [u8],
     half: usize,

@@ -1,10 +1,9 @@
 -- A convolution as the checks let it pass, and its rows and rectangles as they are drawn. Assumes nothing.
-use Prim.Native.Nat.{ℕ, ◌+◌, ◌-◌, ◌*◌, ◌≤◌, ◌<◌}
+use Prim.Native.Nat.{ℕ, ◌+◌, ◌≤◌, ◌<◌}
 use mathlib.Core.Path.{◌≡◌, sym, ap}
 use mathlib.Core.Bool.{true}
 use mathlib.Core.List.{List}
 use native.Mathlib.Omega.{arith}
-use lib.ListN.{length}
 use Rattle.number.specs.declared.Fixed.{Fixed}
 use Rattle.number.specs.Number.{limit_of}
 use Rattle.number.specs.declared.Range.TheVariants.{Coefficient}
@@ -13,8 +12,7 @@ use Rattle.pixel.specs.Convolve.{convolved}
 use Rattle.kernel_lines.specs.Convolved.{Convolves}
 use Rattle.filter.specs.declared.Input.{Input}
 use Rattle.filter.specs.declared.Rect.{Rect}
-use Rattle.filter.specs.declared.Shape.TheVariants.{Convolve}
-use Rattle.filter.specs.Rect.{In, canvas_of}
+use Rattle.filter.specs.Rect.{canvas_of}
 use Rattle.filter.specs.Picture.{Picture, blank}
 use Rattle.filter.specs.Kinds.{value_at, work_of}
 use Rattle.filter.specs.Convolutions.{convolution?, convolution_count}
@@ -27,7 +25,7 @@ use Rattle.buffers.specs.declared.Context.{Context}
 use Rattle.buffers.specs.Shown.{shown}
 use Rattle.buffers.proofs.DrawnRows.{drawn-new}
 use Rattle.draw_convolve.specs.Convolved.{RectConvolved, ConvolveDrawn}
-use Rattle.draw_convolve.specs.Staged.{RowsRead, ScratchHolds}
+use Rattle.draw_convolve.specs.Staged.{ScratchHolds}
 
 -- what the checks establish is what the kernels ask
 pub convolves : (k : Convolution) (v : List Fixed) → convolution? k ≡ true → Ranged (convolution_numbers k) v → Divides k v → Convolves k v

@@ -8,7 +8,6 @@ use borrow.Author.Tests.{leb-true}
 use Rattle.pixel.specs.declared.Edge.TheVariants.{None}
 use Rattle.pixel.specs.declared.Convolution.{Convolution}
 use Rattle.draw_window.specs.LookedAt.{LookedAt}
-use Rattle.kernel_lines.specs.Lines.{place_of}
 use Rattle.draw_convolve.specs.Staged.{row_read, RowsRead}
 
 -- without an edge that is extended: those that the rows of the results look at

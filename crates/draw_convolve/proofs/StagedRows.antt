@@ -1,15 +1,14 @@
 -- Rows of scratch that hold a picture: one row more, and the lines that are laid from them. Assumes nothing.
 use Prim.Native.Nat.{ℕ, ◌+◌, ◌-◌, ◌*◌, ◌≤◌, ◌<◌}
 use mathlib.Core.Path.{◌≡◌, refl, sym, ap, subst, ◌∙◌}
-use mathlib.Core.Bool.{Bool, true, false, cond}
+use mathlib.Core.Bool.{Bool, true, false}
 use mathlib.Core.List.{List}
 use native.Mathlib.Decide.{dec_lt}
 use native.Mathlib.Nat.{mul-le-mul_right}
 use native.Mathlib.Omega.{arith}
-use lib.ListN.{length, take, drop}
+use lib.ListN.{take, drop}
 use borrow.Author.Tests.{lt-ltb}
 use Rattle.window.specs.Limits.{longest_side}
-use Rattle.pixel.specs.declared.Pixel.{Pixel}
 use Rattle.pixel.specs.declared.Convolution.{Convolution}
 use Rattle.pixel.specs.Alpha.{Valid, clear, straight}
 use Rattle.pixel.specs.Bytes.{pixel_at, Painted}
@@ -18,9 +17,8 @@ use Rattle.pixel.proofs.PaintedRows.{pixel-same, pixel-part, painted-as}
 use Rattle.kernel_lines.specs.Lines.{line_bytes, pixel_in}
 use Rattle.kernel_lines.specs.Convolved.{as_read}
 use Rattle.kernel_lines.proofs.ExtendedRows.{pixel-behind, extended-place, extended-as, extended-map}
-use Rattle.filter.specs.Rect.{In, canvas_of}
 use Rattle.filter.specs.Picture.{Picture}
-use Rattle.filter.specs.Valid.{ValidPicture, BlankOutside}
+use Rattle.filter.specs.Valid.{ValidPicture}
 use Rattle.buffers.specs.Context.{LoadedPart}
 use Rattle.buffers.proofs.LoadedRows.{loaded-pixel}
 use Rattle.draw_convolve.specs.Staged.{Staged, row_read, line_of, ScratchHolds}

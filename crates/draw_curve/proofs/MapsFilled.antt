@@ -1,12 +1,12 @@
 -- Four maps, filled one after another; and maps that hold the same bytes remap alike. Assumes nothing.
-use Prim.Native.Nat.{ℕ, ◌+◌, ◌-◌, ◌<◌}
-use mathlib.Core.Path.{◌≡◌, sym, ap, ap₂, ◌∙◌}
+use Prim.Native.Nat.{ℕ, ◌+◌, ◌-◌}
+use mathlib.Core.Path.{◌≡◌, ap, ap₂, ◌∙◌}
 use mathlib.Core.List.{List}
 use native.Mathlib.Omega.{arith}
-use lib.ListN.{length, get_or}
+use lib.ListN.{length}
 use Rattle.window.specs.Store.{Filled}
 use Rattle.pixel.specs.declared.Pixel.{Pixel}
-use Rattle.pixel.specs.Alpha.{Valid, Bytes, premultiplied, unpremultiplied}
+use Rattle.pixel.specs.Alpha.{Valid, Bytes, premultiplied}
 use Rattle.pixel.specs.Remap.{Maps, remapped}
 use Rattle.pixel.proofs.PaintedRows.{pixel-is}
 use Rattle.pixel.proofs.Premultiplied.{unpremultiplied-byte}

@@ -1,10 +1,9 @@
 -- The smallest and the largest along lines: a band of each line is enough for them. Assumes nothing.
 use Prim.Native.Nat.{ℕ, ◌+◌, max}
-use mathlib.Core.Path.{◌≡◌, refl, sym, ap, ◌∙◌}
+use mathlib.Core.Path.{◌≡◌, refl}
 use mathlib.Core.List.{List}
 use native.Mathlib.Nat.{min-zero}
 use native.Mathlib.Numerals.{add-one}
-use native.Mathlib.Omega.{arith}
 use Rattle.window.specs.Window.{fold, column}
 use Rattle.kernel_fold.specs.declared.Extreme.{Extreme}
 use Rattle.kernel_fold.specs.declared.Extreme.TheVariants.{Least, Largest}

@@ -5,7 +5,6 @@ use Rattle.kernel_fold.specs.declared.Extreme.TheVariants.{Least, Largest}
 use Rattle.kernel_fold.specs.Operation.{operation}
 use Rattle.kernel_morph.specs.Extremes.{neutral}
 use Rattle.filter.specs.declared.Pass.{Pass}
-use Rattle.filter.specs.declared.Pass.TheVariants as Pass
 use Rattle.filter.specs.Picture.{Picture, each}
 use Rattle.filter.specs.Kinds.{blurred, eroded, dilated, passed, back_of, ahead_of}
 use Rattle.draw_window.specs.LineRules.{across_of, down_of}

@@ -2,7 +2,6 @@
 use Rattle.std.specs.Prelude.{ℕ}
 use Rattle.kernel_fold.specs.declared.Extreme.TheVariants.{Least, Largest}
 use Rattle.filter.specs.declared.Pass.{Pass}
-use Rattle.filter.specs.declared.Pass.TheVariants as Pass
 use Rattle.draw_window.specs.LineRules.{Rule}
 use Rattle.draw_blur.specs.BlurRule.{blurs}
 use Rattle.draw_morph.specs.ExtremeRule.{extremes}

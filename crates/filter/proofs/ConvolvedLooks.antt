@@ -1,11 +1,11 @@
 -- A convolution depends on the kernel's window, or with an edge that is extended on the whole canvas. Assumes nothing.
-use Prim.Native.Nat.{ℕ, zero, suc, ◌+◌, ◌-◌, ◌*◌, ◌%◌, ◌≤◌, ◌<◌, min}
+use Prim.Native.Nat.{ℕ, ◌+◌, ◌-◌, ◌*◌, ◌%◌, ◌≤◌, ◌<◌, min}
 use mathlib.Core.Path.{◌≡◌, refl, sym, ap, ap₂, ◌∙◌}
 use mathlib.Core.Bool.{Bool, true, false, cond}
 use native.Mathlib.Nat.{mod-lt}
 use native.Mathlib.Omega.{arith}
 use lib.Dec.{leb}
-use lib.IntN.{ℤ, pos, ◌+ℤ◌, ◌*ℤ◌}
+use lib.IntN.{ℤ, pos, ◌*ℤ◌}
 use borrow.Author.Tests.{leb-true}
 use Rattle.number.specs.declared.Fixed.{Fixed}
 use Rattle.pixel.specs.declared.Pixel.{Pixel}
@@ -13,11 +13,11 @@ use Rattle.pixel.specs.declared.Edge.{Edge}
 use Rattle.pixel.specs.declared.Edge.TheVariants.{Duplicate, Wrap, None}
 use Rattle.pixel.specs.declared.Convolution.{Convolution}
 use Rattle.pixel.specs.Alpha.{clear, unpremultiplied}
-use Rattle.pixel.specs.Convolve.{weight, divisor_of, bias_of, extended, quotient, neighbour, sum, weighed, channel_sum, convolved}
+use Rattle.pixel.specs.Convolve.{weight, divisor_of, bias_of, extended, quotient, neighbour, weighed, channel_sum, convolved}
 use Rattle.pixel.proofs.Convolved.{sum_same}
 use Rattle.filter.specs.Rect.{In, canvas_of}
 use Rattle.filter.specs.Picture.{Picture, blank, patch}
-use Rattle.filter.specs.Reach.{Axis, Sees, span}
+use Rattle.filter.specs.Reach.{Axis, Sees}
 use Rattle.filter.specs.Kinds.{kernel_sight, sight_across, sight_down}
 use Rattle.filter.proofs.PlacesInRects.{in?}
 use Rattle.filter.proofs.Patches.{patch-in, patch-out}

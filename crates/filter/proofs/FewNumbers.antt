@@ -1,7 +1,7 @@
 -- A channel of a curve has at most 16 numbers, a kernel at most 25 values, and no kind more numbers than a step has room for. Assumes nothing.
-use Prim.Native.Nat.{ℕ, ◌+◌, ◌*◌, ◌≤◌, ◌<◌}
+use Prim.Native.Nat.{ℕ, ◌+◌, ◌≤◌, ◌<◌}
 use mathlib.Core.Path.{◌≡◌, refl}
-use mathlib.Core.Bool.{Bool, true, false, cond, ◌&&◌}
+use mathlib.Core.Bool.{Bool, true, false, cond}
 use native.Mathlib.Omega.{arith}
 use lib.Dec.{ltb, leb}
 use borrow.Author.Tests.{ltb-true, leb-true}
@@ -11,11 +11,8 @@ use Rattle.pixel.specs.Convolve.{cells}
 use Rattle.pixel.specs.declared.Transfer as T
 use Rattle.pixel.specs.declared.Transfer.TheVariants.{Identity, Table, Discrete, Linear}
 use Rattle.filter.specs.declared.Map.{Map}
-use Rattle.filter.specs.declared.Map.TheVariants as Map
 use Rattle.filter.specs.declared.Pair.{Pair}
-use Rattle.filter.specs.declared.Pair.TheVariants as Pair
 use Rattle.filter.specs.declared.Pass.{Pass}
-use Rattle.filter.specs.declared.Pass.TheVariants as Pass
 use Rattle.filter.specs.declared.Kind.{Kind}
 use Rattle.filter.specs.declared.Kind.TheVariants as K
 use Rattle.filter.specs.Limits.{most_entries, most_numbers, most_order}

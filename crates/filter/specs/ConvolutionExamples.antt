@@ -1,5 +1,5 @@
 -- Worked examples of convolutions on small canvases; values worked by hand. Assumes nothing.
-use Rattle.std.specs.Prelude.{ℕ, ◌+◌, ◌*◌, ◌≡◌, refl, Bool, true, false, List, [], ◌∷◌, ◌++◌, ltb, leb, get_or, replicate, ℤ, pos, negsuc}
+use Rattle.std.specs.Prelude.{ℕ, ◌+◌, ◌*◌, ◌≡◌, refl, Bool, true, false, List, [], ◌∷◌, ◌++◌, get_or, replicate, ℤ, pos, negsuc}
 use Rattle.number.specs.Fraction.{nearest}
 use Rattle.number.specs.Number.{judged_ratio}
 use Rattle.pixel.specs.declared.Space.TheVariants.{Srgb}
@@ -17,7 +17,7 @@ use Rattle.filter.specs.declared.Rect.{Rect}
 use Rattle.filter.specs.declared.Step.{Step}
 use Rattle.filter.specs.declared.Answer.TheVariants as A
 use Rattle.filter.specs.Rect.{canvas_of, inside, filled, join, empty}
-use Rattle.filter.specs.Picture.{Picture, blank, patch}
+use Rattle.filter.specs.Picture.{blank, patch}
 use Rattle.filter.specs.Reach.{grow}
 use Rattle.filter.specs.Layers.{rendered, damages, replaced, initial, changed, reached}
 use Rattle.filter.specs.Kinds.{work_of, reads}

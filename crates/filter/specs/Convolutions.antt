@@ -1,5 +1,5 @@
 -- The orders, the target and the numbers of a convolution (RULES 5.14). Assumes nothing.
-use Rattle.std.specs.Prelude.{ℕ, ◌+◌, ◌*◌, Bool, cond, ◌&&◌, ltb, leb}
+use Rattle.std.specs.Prelude.{ℕ, ◌+◌, Bool, cond, ◌&&◌, ltb, leb}
 use Rattle.pixel.specs.declared.Convolution.{Convolution}
 use Rattle.pixel.specs.Convolve.{cells}
 use Rattle.filter.specs.Limits.{most_order, most_numbers}

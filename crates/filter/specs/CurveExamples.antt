@@ -1,5 +1,5 @@
 -- Worked examples of curves, on a canvas of one pixel; values worked by hand. Assumes nothing.
-use Rattle.std.specs.Prelude.{ℕ, ◌≡◌, refl, List, [], ◌∷◌, ◌++◌, map, ltb, leb, get_or, replicate, ℤ, pos, negsuc}
+use Rattle.std.specs.Prelude.{◌≡◌, refl, List, [], ◌∷◌, ◌++◌, map, replicate, ℤ, pos, negsuc}
 use Rattle.number.specs.declared.Number.TheVariants.{Decimal}
 use Rattle.number.specs.Fraction.{nearest}
 use Rattle.number.specs.Number.{judged_ratio}

@@ -5,11 +5,8 @@ use Rattle.number.specs.declared.Range.TheVariants as R
 use Rattle.pixel.specs.declared.Transfers.{Transfers}
 use Rattle.pixel.specs.declared.Convolution.{Convolution}
 use Rattle.filter.specs.declared.Map.{Map}
-use Rattle.filter.specs.declared.Map.TheVariants as Map
 use Rattle.filter.specs.declared.Pair.{Pair}
-use Rattle.filter.specs.declared.Pair.TheVariants as Pair
 use Rattle.filter.specs.declared.Pass.{Pass}
-use Rattle.filter.specs.declared.Pass.TheVariants as Pass
 use Rattle.filter.specs.declared.Kind.{Kind}
 use Rattle.filter.specs.declared.Kind.TheVariants as K
 use Rattle.filter.specs.declared.Group.{Group}

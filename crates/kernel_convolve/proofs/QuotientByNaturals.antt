@@ -11,7 +11,7 @@ use Rattle.number.specs.Number.{value}
 use Rattle.number.specs.declared.Fixed.{Fixed}
 use Rattle.pixel.specs.Whole.{nearest_up, limited}
 use Rattle.pixel.specs.Convolve.{quotient}
-use Rattle.pixel.proofs.SignedSums.{above, below, Diff, diff-sub, diff-add, diff-mul, diff-by, diff-plus, diff-limited}
+use Rattle.pixel.proofs.SignedSums.{Diff, diff-sub, diff-add, diff-mul, diff-by, diff-plus, diff-limited}
 use Rattle.kernel_convolve.specs.Code.{lift_over, lift_under}
 
 pub diff-negate : {z : ℤ} {a b : ℕ} → Diff z a b → Diff (neg_ℤ z) b a

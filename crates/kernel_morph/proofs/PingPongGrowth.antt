@@ -6,7 +6,8 @@ use Prim.Native.Nat.{ℕ, ◌+◌, ◌-◌, ◌*◌, ◌≤◌, ◌<◌, min}
 use native.Mathlib.Nat.{mul-le-mul_right}
 use native.Mathlib.Omega.{arith}
 use borrow.Author.Tests.{lt-ltb, le-ltb, le-leb, lt-leb}
-use lib.ListN.{get_or}
+use lib.ListN.{length, get_or}
+use Rattle.window.specs.Ranges.{Apart}
 use Rattle.window.specs.Store.{Filled, Lined, byte_at}
 use Rattle.window.specs.Window.{column}
 use Rattle.window.proofs.Store.{lt-or-le, lined-outside}
@@ -28,6 +29,16 @@ pingpong-start op a b n count d bytes = record {
   outside = λ j p q. refl;
   long = refl;
 }
+
+-- while windows grow, those at `here` reach p and q, and `there` is scratch
+pub record Standing (op : Extreme) (a b n count back ahead here there p q : ℕ) (d d' : List ℕ) : Type 0 where
+  pub lines : PingPong (windows op d a n count p q) here there n count here d d'
+  pub place : ((here ≡ a) × (there ≡ b)) ⊎ ((here ≡ b) × (there ≡ a))
+  pub low : p ≤ back
+  pub high : q ≤ ahead
+  pub room-here : here + count * n ≤ length d
+  pub room-there : there + count * n ≤ length d
+  pub apart : Apart here (count * n) there (count * n)
 
 -- longer windows, at the other place
 pub pingpong-widen : (op : Extreme) (a n count p q p' q' here there : ℕ) (d d₁ d₂ : List ℕ) → PingPong (windows op d a n count p q) here there n count here d d₁

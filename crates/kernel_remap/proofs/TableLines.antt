@@ -9,7 +9,6 @@ use Rattle.window.specs.Store.{Filled}
 use Rattle.window.proofs.Store.{lt-or-le}
 use Rattle.pixel.specs.declared.Space.{Space}
 use Rattle.pixel.specs.Alpha.{premultiplied, unpremultiplied}
-use Rattle.pixel.specs.Space.{table_of}
 use Rattle.pixel.specs.Convert.{pair_of}
 use Rattle.pixel.proofs.Premultiplied.{unpremultiplied-byte}
 use Rattle.pixel.proofs.Converted.{pair-zero, pair-above}

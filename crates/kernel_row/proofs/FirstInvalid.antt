@@ -1,6 +1,6 @@
 -- Laws of the first invalid pixel: it is exactly the one that is not valid after valid ones; there is none exactly where all are valid.
 -- Assumes nothing.
-use Rattle.std.proofs.Common.{◌≡◌, ℕ, zero, suc, ◌+◌, ◌-◌, ◌*◌, ◌<◌, ◌≤◌, Bool, true, false, not, ◌&&◌, ◌||◌, ltb, leb, ◌⊎◌, List, get_or, take, drop, sym, refl, ap, ◌∙◌, ap₂, ⊎_elim, mul-le-mul_right, mul_comm, add-one, arith, get_or-drop, get_or-take, le-ltb, lt-ltb, le-leb}
+use Rattle.std.proofs.Common.{◌≡◌, ℕ, zero, suc, ◌+◌, ◌*◌, ◌<◌, ◌≤◌, Bool, true, false, not, ◌&&◌, ◌||◌, ltb, leb, List, get_or, take, drop, sym, refl, ap, ◌∙◌, ap₂, ⊎_elim, mul-le-mul_right, mul_comm, add-one, arith, get_or-drop, get_or-take, le-ltb, lt-ltb, le-leb}
 use borrow.Author.Tests.{lt-leb}
 use Rattle.window.proofs.Truths.{and_left, and_right}
 use Rattle.window.proofs.Store.{lt-or-le}

@@ -12,7 +12,7 @@ use Rattle.number.specs.Number.{value}
 use Rattle.number.specs.declared.Fixed.{Fixed}
 use Rattle.pixel.specs.Whole.{◌÷◌, limited, nearest_up}
 use Rattle.pixel.specs.Convolve.{quotient}
-use Rattle.pixel.proofs.SignedSums.{above, below, Diff, diff-add, diff-by, diff-plus, diff-limited}
+use Rattle.pixel.proofs.SignedSums.{Diff, diff-add, diff-by, diff-plus, diff-limited}
 use Rattle.kernel_taps.specs.Taps.{Scaled}
 use Rattle.kernel_taps.proofs.WholeTaps.{diff_is}
 

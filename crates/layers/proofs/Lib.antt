@@ -7,4 +7,3 @@ pub mod Rendering
 pub mod Redrawing
 pub mod Progress
 pub mod AnswerSoFar
-pub mod DrawLoop

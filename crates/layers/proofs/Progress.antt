@@ -1,11 +1,10 @@
 -- The loop over the steps of a call: what holds after n of them, in a render as in a redraw, and one step more. Assumes nothing.
-use Prim.Native.Nat.{ℕ, ◌+◌, ◌≤◌, ◌<◌}
-use mathlib.Core.Path.{◌≡◌, refl, sym, ap, ◌∙◌, fun_ext}
+use Prim.Native.Nat.{ℕ, ◌+◌, ◌<◌}
+use mathlib.Core.Path.{◌≡◌, refl, ap, ◌∙◌, fun_ext}
 use mathlib.Core.Bool.{true, false}
 use mathlib.Core.List.{List}
 use native.Mathlib.Omega.{arith}
-use lib.ListN.{length, set, replicate}
-use Rattle.filter.specs.declared.Rect.{Rect}
+use lib.ListN.{length, replicate}
 use Rattle.filter.specs.declared.Region.{Region}
 use Rattle.filter.specs.declared.Step.{Step}
 use Rattle.filter.specs.declared.Sheet.{Sheet}
@@ -103,12 +102,12 @@ module _ (sheet : Sheet) (steps : List Step) (src ws scr : List ℕ) where
 
     module _ (R : accepted? answer ≡ true → ReadyFor call sheet steps src ws scr) where
       module _ (n : ℕ) (l : n < count) (d s : List ℕ) (z : SoFar) (P : Progress call answer n d s z) where
-        pub progress-ready : accepted? answer ≡ true → NextReady call sheet n (step_at steps n) z src d s
-        progress-ready a = stands-ready n l d s z call (R a) (P.drawn a)
+        pub progress-ready : (step : Step) → step ≡ step_at steps n → accepted? answer ≡ true → NextReady call sheet n step z src d s
+        progress-ready step same a = rw same (stands-ready n l d s z call (R a) (P.drawn a))
 
-        pub progress-more : (d' s' : List ℕ) (z' : SoFar) → NextDrawn call sheet answer n (step_at steps n) src d d' z z' → ScratchAfter answer s s' → Progress call answer (n + 1) d' s' z'
-        progress-more d' s' z' D S = record {
-          drawn = λ a. stands-more n l d s z call (R a) (P.drawn a) d' s' z' (D.drawn a) S.long;
+        pub progress-more : (step : Step) → step ≡ step_at steps n → (d' s' : List ℕ) (z' : SoFar) → NextDrawn call sheet answer n step src d d' z z' → ScratchAfter answer s s' → Progress call answer (n + 1) d' s' z'
+        progress-more step same d' s' z' D S = record {
+          drawn = λ a. stands-more n l d s z call (R a) (P.drawn a) d' s' z' (rw same at (D.drawn a)) S.long;
           refused = λ a.
               let e = D.refused a in
               let p = P.refused a in

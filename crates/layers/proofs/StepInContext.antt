@@ -1,9 +1,8 @@
 -- A step in the context that is made for it: what it asks, and what it leaves, said of the step itself. Assumes nothing.
 use Prim.Native.Nat.{ℕ, ◌*◌}
-use mathlib.Core.Path.{◌≡◌, ap}
+use mathlib.Core.Path.{◌≡◌}
 use mathlib.Core.Bool.{Bool}
 use mathlib.Core.List.{List}
-use Rattle.pixel.specs.declared.Space.{Space}
 use Rattle.filter.specs.declared.Input.{Input}
 use Rattle.filter.specs.declared.Rect.{Rect}
 use Rattle.filter.specs.declared.Resolved.{Resolved}

@@ -1,3 +1,2 @@
--- Laws that the proof of the walk cites.
-pub mod LinePromises
+-- Laws of the list that is read from a text.
 pub mod AllStepsCount

@@ -10,7 +10,7 @@ use Rattle.filter.specs.Steps.{blank_step}
 use Rattle.text.specs.declared.Form.{Form}
 use Rattle.text.specs.declared.Reading as R
 use Rattle.text.specs.Reading.{reading_of, steps_in}
-use Rattle.layers.specs.Given.{Given, giving, Slice}
+use Rattle.layers.specs.Given.{Given, giving, Slice, SliceMut}
 use Rattle.render.specs.Promise.{answered, pixels_worked, if_drawn, RedrawsFor, ValidFor}
 
 -- what the reader says of a text, for a list as long as a sheet may be
@@ -42,7 +42,7 @@ giving_text form s call w h src ws scr =
     record { form = form; text = s; call = call; width = w; height = h; source = src; workspace = ws; scratch = scr }
 
 -- by the names in an `ensures`
-abbrev pub given_text : Form → Slice ℕ → Call → ℕ → ℕ → Slice ℕ → Slice ℕ → Slice ℕ → GivenText
+abbrev pub given_text : Form → Slice ℕ → Call → ℕ → ℕ → Slice ℕ → SliceMut ℕ → SliceMut ℕ → GivenText
 given_text form text call w h source workspace scratch =
     giving_text form text.entry.now call w h source.entry.now workspace.entry.now scratch.entry.now
 

@@ -13,53 +13,56 @@ ghost use Rattle.damage.specs.InputRects.{AllWithin};
 use damage::SoFar;
 use filter::{Answer, Kind, Map, Rect, Region, Sheet, Step};
 use pixel::{Convolution, Edge, Transfer, Transfers};
+use std::fs::File;
+use std::io;
+use std::io::{ErrorKind, Read};
+use std::rt::Files;
 use tables::field::hex;
 use text::reader::scan;
 use text::{Form, ReadAnswer, Reading};
 
-fn print_word(w: &[u8]) {
-    io::write_all(1, w);
+fn print_word(rt: &impl Print, w: &[u8]) -> io::Result<()> {
+    rt.write_all(w)
 }
 
-fn print_number(n: u64) {
-    io::write_all(1, b" ");
-    io::print_decimal(1, n);
+fn print_number(rt: &impl Print, n: u64) -> io::Result<()> {
+    print!(rt; " {n}")
 }
 
-fn end_line() {
-    io::write_all(1, b"\n");
+fn end_line(rt: &impl Print) -> io::Result<()> {
+    println!(rt)
 }
 
 // Lists with fewer, as many and more records than a text has steps; a bad line comes before too few records.
 
-fn print_refusal(number: &[u8], place: usize) {
-    print_word(number);
-    print_number(place as u64);
+fn print_refusal(rt: &impl Print, number: &[u8], place: usize) -> io::Result<()> {
+    print_word(rt, number)?;
+    print_number(rt, place as u64)
 }
 
-fn print_reading(reading: Reading) {
+fn print_reading(rt: &impl Print, reading: Reading) -> io::Result<()> {
     let answer = reading.answer;
     match answer {
-        ReadAnswer::Done => print_refusal(b" 0", 0),
-        ReadAnswer::Line(n) => print_refusal(b" 15", n),
-        ReadAnswer::Records => print_refusal(b" 21", 0),
+        ReadAnswer::Done => print_refusal(rt, b" 0", 0)?,
+        ReadAnswer::Line(n) => print_refusal(rt, b" 15", n)?,
+        ReadAnswer::Records => print_refusal(rt, b" 21", 0)?,
     }
-    print_number(reading.count as u64);
-    end_line();
+    print_number(rt, reading.count as u64)?;
+    end_line(rt)
 }
 
-fn print_room(text: &[u8], room: usize) {
-    print_word(b"Room");
-    print_number(room as u64);
-    print_reading(scan(Form::Lines, text, room));
+fn print_room(rt: &impl Print, text: &[u8], room: usize) -> io::Result<()> {
+    print_word(rt, b"Room")?;
+    print_number(rt, room as u64)?;
+    print_reading(rt, scan(Form::Lines, text, room))
 }
 
-fn print_rooms() {
+fn print_rooms(rt: &impl Print) -> io::Result<()> {
     let good = b"lumalpha\t0\t0\t1\t1\tsrc\nlumalpha\t0\t0\t1\t1\tsrc\nlumalpha\t0\t0\t1\t1\tsrc\n";
-    print_room(good, 2);
-    print_room(good, 3);
-    print_room(good, 4);
-    print_room(b"lumalpha\t0\t0\t1\t1\tsrc\nlumalpha\t0\t0\t1\t1\n", 0);
+    print_room(rt, good, 2)?;
+    print_room(rt, good, 3)?;
+    print_room(rt, good, 4)?;
+    print_room(rt, b"lumalpha\t0\t0\t1\t1\tsrc\nlumalpha\t0\t0\t1\t1\n", 0)
 }
 
 // Records of a curve as step 2 whose red has so many entries: what no line of the form can claim.
@@ -86,11 +89,11 @@ fn curve_of(count: usize) -> Step {
     }
 }
 
-fn print_entries(count: usize) {
-    print_word(b"Entries");
-    print_number(count as u64);
-    print_answer(checks::checks::check_step(1, 1, 2, curve_of(count)));
-    end_line();
+fn print_entries(rt: &impl Print, count: usize) -> io::Result<()> {
+    print_word(rt, b"Entries")?;
+    print_number(rt, count as u64)?;
+    print_answer(rt, checks::checks::check_step(1, 1, 2, curve_of(count)))?;
+    end_line(rt)
 }
 
 // Records of a convolution as step 2 with such orders; the target is the first place.
@@ -120,25 +123,28 @@ fn convolution_of(columns: usize, rows: usize) -> Step {
     }
 }
 
-fn print_orders(columns: usize, rows: usize) {
-    print_word(b"Orders");
-    print_number(columns as u64);
-    print_number(rows as u64);
-    print_answer(checks::checks::check_step(1, 1, 2, convolution_of(columns, rows)));
-    end_line();
+fn print_orders(rt: &impl Print, columns: usize, rows: usize) -> io::Result<()> {
+    print_word(rt, b"Orders")?;
+    print_number(rt, columns as u64)?;
+    print_number(rt, rows as u64)?;
+    print_answer(
+        rt,
+        checks::checks::check_step(1, 1, 2, convolution_of(columns, rows)),
+    )?;
+    end_line(rt)
 }
 
-fn print_counts() {
-    print_orders(0, 1);
-    print_orders(1, 6);
-    print_orders(5, 5);
-    print_orders(1000000, 1000000);
-    print_orders(6442450941, 2863311531);
-    print_entries(0);
-    print_entries(1);
-    print_entries(16);
-    print_entries(17);
-    print_entries(1000000);
+fn print_counts(rt: &impl Print) -> io::Result<()> {
+    print_orders(rt, 0, 1)?;
+    print_orders(rt, 1, 6)?;
+    print_orders(rt, 5, 5)?;
+    print_orders(rt, 1000000, 1000000)?;
+    print_orders(rt, 6442450941, 2863311531)?;
+    print_entries(rt, 0)?;
+    print_entries(rt, 1)?;
+    print_entries(rt, 16)?;
+    print_entries(rt, 17)?;
+    print_entries(rt, 1000000)
 }
 
 // The table.
@@ -150,30 +156,31 @@ fn side(head: &[u8], i: usize) -> usize
     (hex(head, 4 * i, 4) % 65536) as usize
 }
 
-fn print_answer(answer: Answer) {
-    print_number(checks::answers::number(answer));
-    print_number(checks::answers::place(answer) as u64);
+fn print_answer(rt: &impl Print, answer: Answer) -> io::Result<()> {
+    print_number(rt, checks::answers::number(answer))?;
+    print_number(rt, checks::answers::place(answer) as u64)
 }
 
-fn print_rect(r: Rect) {
+fn print_rect(rt: &impl Print, r: Rect) -> io::Result<()> {
     if damage::rectangle::is_filled(r) {
-        print_number(r.left as u64);
-        print_number(r.right as u64);
-        print_number(r.top as u64);
-        print_number(r.bottom as u64);
+        print_number(rt, r.left as u64)?;
+        print_number(rt, r.right as u64)?;
+        print_number(rt, r.top as u64)?;
+        print_number(rt, r.bottom as u64)
     } else {
-        print_word(b" -");
+        print_word(rt, b" -")
     }
 }
 
-fn print_damages(count: usize, d: SoFar)
+fn print_damages(rt: &impl Print, count: usize, d: SoFar) -> io::Result<()>
     requires { count ≤ most_steps }
 {
-    print_number(d.count as u64);
+    print_number(rt, d.count as u64)?;
     for n in 0..count {
         let r = d.rects[n];
-        print_rect(r);
+        print_rect(rt, r)?;
     }
+    Ok(())
 }
 
 // 1 and 3: the canvas and the number of steps, all buffers of the right length.
@@ -203,7 +210,14 @@ fn next_damages(w: usize, h: usize, n: usize, step: Step, changed: Rect, damages
 }
 
 // The steps of the lines, one after another: their checks, then their rectangles.
-fn print_steps(w: usize, h: usize, changed: Rect, lines: &[u8], count: usize)
+fn print_steps(
+    rt: &impl Print,
+    w: usize,
+    h: usize,
+    changed: Rect,
+    lines: &[u8],
+    count: usize,
+) -> io::Result<()>
     requires { (w ≤ longest_side) × (h ≤ longest_side) × (count ≤ most_steps) × Within longest_side longest_side changed }
 {
     let mut answer = Answer::Done;
@@ -212,7 +226,7 @@ fn print_steps(w: usize, h: usize, changed: Rect, lines: &[u8], count: usize)
     for n in 0..count {
         let e = text_field::lines::find(lines, at, 10);
         if lines.len() <= e {
-            return;
+            return Ok(());
         }
         let s = text_step::step_lines::step_of(&lines[at..e]);
         let step = s.step;
@@ -220,29 +234,37 @@ fn print_steps(w: usize, h: usize, changed: Rect, lines: &[u8], count: usize)
         damages = next_damages(w, h, n, step, changed, damages);
         at = text::reader::line_after(lines, at);
     }
-    print_answer(answer);
+    print_answer(rt, answer)?;
     if checks::answers::is_accepted(answer) {
-        print_damages(count, damages);
+        print_damages(rt, count, damages)?;
     }
+    Ok(())
 }
 
-fn print_plan(w: usize, h: usize, changed: Region, lines: &[u8], count: usize)
+fn print_plan(
+    rt: &impl Print,
+    w: usize,
+    h: usize,
+    changed: Region,
+    lines: &[u8],
+    count: usize,
+) -> io::Result<()>
     requires { (w < 65536) × (h < 65536) }
 {
     if Sheet::STEPS < count {
-        return;
+        return Ok(());
     }
     let a = check_canvas(w, h, count);
     let b = checks::sizes::check_rectangle(w, h, changed);
     let early = checks::answers::first(a, b);
     if checks::answers::is_accepted(early) {
-        print_steps(w, h, damage::rectangle::bounds(changed), lines, count);
+        print_steps(rt, w, h, damage::rectangle::bounds(changed), lines, count)
     } else {
-        print_answer(early);
+        print_answer(rt, early)
     }
 }
 
-fn print_plan_case(head: &[u8], lines: &[u8])
+fn print_plan_case(rt: &impl Print, head: &[u8], lines: &[u8]) -> io::Result<()>
     requires { length head.now ≡ 29 }
 {
     let changed = Region {
@@ -254,51 +276,66 @@ fn print_plan_case(head: &[u8], lines: &[u8])
     let reading = scan(Form::Lines, lines, Sheet::STEPS);
     let answer = reading.answer;
     match answer {
-        ReadAnswer::Done => print_plan(side(head, 0), side(head, 1), changed, lines, reading.count),
-        ReadAnswer::Line(n) => print_refusal(b" 15", n),
-        ReadAnswer::Records => print_refusal(b" 21", 0),
+        ReadAnswer::Done => print_plan(
+            rt,
+            side(head, 0),
+            side(head, 1),
+            changed,
+            lines,
+            reading.count,
+        ),
+        ReadAnswer::Line(n) => print_refusal(rt, b" 15", n),
+        ReadAnswer::Records => print_refusal(rt, b" 21", 0),
     }
 }
 
-fn print_lines(file: i32, head: &[u8], n: u64) -> bool
+// Fills the buffer; false where the file ends before.
+fn fill(file: &mut impl Read, buffer: &mut [u8]) -> io::Result<bool> {
+    match file.read_exact(buffer) {
+        Ok(()) => Ok(true),
+        Err(e) if e.kind() == ErrorKind::UnexpectedEof => Ok(false),
+        Err(e) => Err(e),
+    }
+}
+
+fn print_lines(rt: &impl Print, file: &mut impl Read, head: &[u8], n: u64) -> io::Result<bool>
     requires { length head.now ≡ 29 }
 {
     let long = side(head, 6);
     let mut lines = [0u8; 8192];
     if 8192 < long {
-        return false;
+        return Ok(false);
     }
-    let got = io::read_full(file, &mut lines[..long]);
-    if got != long {
-        return false;
+    if !fill(file, &mut lines[..long])? {
+        return Ok(false);
     }
-    io::print_decimal(1, n);
-    print_plan_case(head, &lines[..long]);
-    end_line();
-    true
+    print!(rt; "{n}")?;
+    print_plan_case(rt, head, &lines[..long])?;
+    end_line(rt)?;
+    Ok(true)
 }
 
 // Reads one entry and prints its line; false at the end.
-fn next_plan(file: i32, n: u64) -> bool {
+fn next_plan(rt: &impl Print, file: &mut impl Read, n: u64) -> io::Result<bool> {
     let mut head = [0u8; 29];
-    let got = io::read_full(file, &mut head);
-    if got < 29 {
-        return false;
+    if !fill(file, &mut head)? {
+        return Ok(false);
     }
-    print_lines(file, &head, n)
+    print_lines(rt, file, &head, n)
 }
 
-fn print_plan_table() {
-    let file = os::open_read(b"plans.in");
-    let mut n: u64 = 0;
-    while n < 1000000 && next_plan(file, n) {
-        n += 1;
+fn print_plan_table(rt: &(impl Files + Print)) -> io::Result<()> {
+    let mut file = File::open(rt, "plans.in")?;
+    for n in 0..1000000 {
+        if !next_plan(rt, &mut file, n)? {
+            break;
+        }
     }
-    libc::close(file);
+    Ok(())
 }
 
-fn main() {
-    print_rooms();
-    print_counts();
-    print_plan_table();
+fn main(rt: HostRuntime) -> io::Result<()> {
+    print_rooms(&rt)?;
+    print_counts(&rt)?;
+    print_plan_table(&rt)
 }

@@ -15,7 +15,7 @@ use Rattle.filter.specs.declared.Region.{Region}
 use Rattle.filter.specs.declared.Sheet.{Sheet}
 use Rattle.filter.specs.declared.Step.{Step}
 use Rattle.filter.specs.Answers.{accepted?}
-use Rattle.filter.specs.Accepted.{AcceptedSheet, OnCanvas}
+use Rattle.filter.specs.Accepted.{OnCanvas}
 use Rattle.filter.specs.Checks.{sizes_answer, rectangle_answer, steps_answer, pixels_answer, contents_answer, answer_of}
 use Rattle.filter.specs.Limits.{most_steps}
 use Rattle.filter.specs.Steps.{step_at}

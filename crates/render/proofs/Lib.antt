@@ -3,3 +3,4 @@ pub mod RefusalOrder
 pub mod AcceptedIsReady
 pub mod PromisesKept
 pub mod LayerViews
+pub mod DrawCall

@@ -1,9 +1,9 @@
 -- From the pictures that the loop leaves to the promises on bytes. Assumes nothing.
 use Prim.Native.Nat.{ℕ, ◌*◌, ◌<◌}
 use mathlib.Core.Path.{◌≡◌, refl, sym, ap, ◌∙◌, subst}
-use mathlib.Core.Bool.{Bool, true, false, cond, false≢true}
-use mathlib.Core.List.{List, [], ◌∷◌}
-use lib.ListN.{length, replicate}
+use mathlib.Core.Bool.{Bool, true, false, false≢true}
+use mathlib.Core.List.{List}
+use lib.ListN.{replicate}
 use Rattle.filter.specs.declared.Answer.{Answer}
 use Rattle.filter.specs.declared.Call.{Call}
 use Rattle.filter.specs.declared.Call.TheVariants as C
@@ -18,7 +18,6 @@ use Rattle.filter.proofs.BytesHoldPictures.{bytes-hold, holds-bytes}
 use Rattle.filter.proofs.RedrawIsRenderInBytes.{redraw-buffers, redraw-keeps}
 use Rattle.filter.proofs.ValidLayers.{layers-valid, redrawn-layers-valid}
 use Rattle.filter.specs.Answers.{accepted?, number_of, place_of}
-use Rattle.lent.proofs.SaysAnd.{AllOf}
 use Rattle.layers.specs.Given.{Given, giving}
 use Rattle.layers.specs.Drawing.{ReadyFor, Drawing, drawn_of, count_for}
 use Rattle.render.specs.declared.Outcome.{Outcome}
@@ -45,19 +44,15 @@ redraws w h steps n g src before after H = record {
 }
 
 -- all that is promised of a call that ends with r, the workspace d and the scratch buffer z
-abbrev pub Promises : Given → Outcome → List ℕ → List ℕ → List (Type 0)
-Promises g r d z =
-    (number_of r.answer ≡ as_number g)
-    ∷ (place_of r.answer ≡ as_place g)
-    ∷ (r.count ≡ pixels_worked r.answer g.call g.sheet g.steps)
-    ∷ (d ≡ if_drawn r.answer g)
-    ∷ (z ≡ if_accepted r.answer (zeros g.scratch) g.scratch)
-    ∷ RedrawsFor r.answer g d
-    ∷ ValidFor r.answer g d
-    ∷ []
-
-abbrev pub Promised : Given → Outcome → List ℕ → List ℕ → Type 0
-Promised g r d z = AllOf (r.answer ≡ answered g) (Promises g r d z)
+pub record Promised (g : Given) (r : Outcome) (d z : List ℕ) : Type 0 where
+  pub answers : r.answer ≡ answered g
+  pub number : number_of r.answer ≡ as_number g
+  pub place : place_of r.answer ≡ as_place g
+  pub counts : r.count ≡ pixels_worked r.answer g.call g.sheet g.steps
+  pub layers : d ≡ if_drawn r.answer g
+  pub cleared : z ≡ if_accepted r.answer (zeros g.scratch) g.scratch
+  pub redraws : RedrawsFor r.answer g d
+  pub valid : ValidFor r.answer g d
 
 -- a sheet with so many steps
 abbrev pub with : Sheet → ℕ → Sheet
@@ -119,7 +114,16 @@ module _ (call : Call) (s : Sheet) (steps : List Step) (src ws scr : List ℕ) (
     where
       said : total ≡ pixels_worked a call s steps → d ≡ if_drawn a g → z' ≡ if_accepted a (zeros scr) scr → RedrawsFor a g d → ValidFor a g d
           → Promised g (record { answer = a; count = total }) d z'
-      said c l y v w = (fa, (ap (λ (x : Answer). number_of x) fa, (ap (λ (x : Answer). place_of x) fa, (c, (l, (y, (v, w)))))))
+      said c l y v w = record {
+        answers = fa;
+        number = ap (λ (x : Answer). number_of x) fa;
+        place = ap (λ (x : Answer). place_of x) fa;
+        counts = c;
+        layers = l;
+        cleared = y;
+        redraws = v;
+        valid = w;
+      }
 
       go : (b : Bool) → accepted? a ≡ b → Promised g (record { answer = a; count = total }) d z'
       go true t =

@@ -1,13 +1,13 @@
 -- The refusal table, check after check. Assumes nothing.
-use Prim.Native.Nat.{ℕ, ◌*◌, ◌≤◌, ◌<◌}
+use Prim.Native.Nat.{ℕ, ◌*◌}
 use mathlib.Core.Path.{◌≡◌, refl, sym, ap, ◌∙◌}
-use mathlib.Core.Bool.{Bool, true, false, not, false≢true}
+use mathlib.Core.Bool.{Bool, true, false}
 use mathlib.Core.List.{List}
 use native.Mathlib.Omega.{arith}
 use native.Mathlib.Nat.{mul_left_comm}
 use lib.Dec.{leb}
 use lib.ListN.{length}
-use borrow.Author.Tests.{eq-eqb, ne_eqb, leb-false, not-true, not-false}
+use borrow.Author.Tests.{eq-eqb, ne_eqb, leb-false}
 use Rattle.pixel.specs.Bytes.{first_invalid}
 use Rattle.filter.specs.declared.Answer.{Answer}
 use Rattle.filter.specs.declared.Answer.TheVariants as A
@@ -34,11 +34,11 @@ pub pixels-in : (w h count : ℕ) → count * size w h ≡ 4 * (w * (count * h))
 pixels-in w h count = mul_left_comm count 4 (w * h) ∙ ap (λ (n : ℕ). 4 * n) (mul_left_comm count w h)
 
 -- what the code's test of an answer says of the table's
-pub is-refused : {a s : Answer} {b : Bool} → a ≡ s → b ≡ accepted? a → not b ≡ true → accepted? s ≡ false
-is-refused {a} {s} {b} e f t = ap accepted? (sym e) ∙ sym f ∙ not-true b t
+pub is-refused : {a s : Answer} {b : Bool} → a ≡ s → b ≡ accepted? a → b ≡ false → accepted? s ≡ false
+is-refused {a} {s} {b} e f t = ap accepted? (sym e) ∙ sym f ∙ t
 
-pub is-passed : {a s : Answer} {b : Bool} → a ≡ s → b ≡ accepted? a → not b ≡ false → accepted? s ≡ true
-is-passed {a} {s} {b} e f t = ap accepted? (sym e) ∙ sym f ∙ not-false b t
+pub is-passed : {a s : Answer} {b : Bool} → a ≡ s → b ≡ accepted? a → b ≡ true → accepted? s ≡ true
+is-passed {a} {s} {b} e f t = ap accepted? (sym e) ∙ sym f ∙ t
 
 -- a refusal ends the checks, an acceptance leaves the rest
 pub else-refused : (a b : Answer) → accepted? a ≡ false → or_else a b ≡ a

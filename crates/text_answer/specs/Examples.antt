@@ -1,6 +1,6 @@
 -- What is printed for the example of RULES 9.9, for a flood in linear light, and for refusals of a text, of a sheet and of a number, computed from
 -- the rules. Assumes nothing.
-use Rattle.std.specs.Prelude.{◌≡◌, refl, List, [], ◌∷◌, ◌++◌, ℕ}
+use Rattle.std.specs.Prelude.{◌≡◌, refl, List, [], ◌++◌, ℕ}
 use Rattle.number.specs.Fraction.{nearest}
 use Rattle.number.specs.Number.{judged_ratio}
 use Rattle.pixel.specs.Composite.{composited}

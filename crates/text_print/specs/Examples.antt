@@ -1,5 +1,5 @@
 -- Printed text, computed from the rules. Assumes nothing.
-use Rattle.std.specs.Prelude.{ℕ, ◌≡◌, refl, cond, List, [], ◌∷◌, eqb}
+use Rattle.std.specs.Prelude.{◌≡◌, refl, cond, eqb}
 use Rattle.pixel.specs.Alpha.{pixel}
 use Rattle.text_field.specs.Words.{bytes}
 use Rattle.text_field.specs.Split as T

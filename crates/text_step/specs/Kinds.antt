@@ -3,11 +3,8 @@ use Rattle.std.specs.Prelude.{Bool, true, false, cond, ◌&&◌, List, [], ◌�
 use Rattle.pixel.specs.declared.Operator.{Operator}
 use Rattle.pixel.specs.declared.Operator.TheVariants as O
 use Rattle.filter.specs.declared.Map.{Map}
-use Rattle.filter.specs.declared.Map.TheVariants as Map
 use Rattle.filter.specs.declared.Pair.{Pair}
-use Rattle.filter.specs.declared.Pair.TheVariants as Pair
 use Rattle.filter.specs.declared.Pass.{Pass}
-use Rattle.filter.specs.declared.Pass.TheVariants as Pass
 use Rattle.filter.specs.declared.Kind.{Kind}
 use Rattle.filter.specs.declared.Kind.TheVariants as K
 use Rattle.filter.specs.Signature.{signature_of}

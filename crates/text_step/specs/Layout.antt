@@ -3,7 +3,6 @@ use Rattle.std.specs.Prelude.{cond, List, [], ℕ, ◌+◌, ltb, get_or}
 use Rattle.pixel.specs.declared.Transfers.{Transfers}
 use Rattle.pixel.specs.declared.Convolution.{Convolution}
 use Rattle.filter.specs.declared.Map.{Map}
-use Rattle.filter.specs.declared.Map.TheVariants as Map
 use Rattle.filter.specs.declared.Kind.{Kind}
 use Rattle.filter.specs.declared.Kind.TheVariants as K
 use Rattle.filter.specs.Convolutions.{values_in}

@@ -1,5 +1,5 @@
 -- A step's line, as its fields: "A step is its kind, x, y, width, height, inputs, numbers", and its working space. Assumes nothing.
-use Rattle.std.specs.Prelude.{Bool, true, false, cond, ◌&&◌, List, [], ◌∷◌, map, ℕ, replicate}
+use Rattle.std.specs.Prelude.{Bool, true, false, cond, ◌&&◌, List, map, ℕ, replicate}
 use Rattle.pixel.specs.declared.Space.{Space}
 use Rattle.filter.specs.declared.Region.{Region}
 use Rattle.filter.specs.declared.Input.TheVariants.{Source, SourceAlpha, Layer}

@@ -4,7 +4,6 @@ use mathlib.Core.Path.{ap}
 use native.Mathlib.Omega.{arith}
 use Rattle.kernel_row.specs.Row.{alpha_only}
 use Rattle.pixel.proofs.PaintedRows.{painted-as, pixel-part}
-use borrow.Author.Rules.{rules}
 use Rattle.buffers.proofs.alpha_part.Goals as goal
 
 pub returns : goal.returns

@@ -4,7 +4,6 @@ use native.Mathlib.Omega.{arith}
 use Rattle.filter.specs.Limits.{most_steps}
 use Rattle.buffers.proofs.RowStarts.{allowed-more}
 use Rattle.buffers.proofs.ShownInputs.{shown-own, loaded-other}
-use borrow.Author.Rules.{rules}
 use Rattle.buffers.proofs.bring.Goals as goal
 
 pub converts-requires : goal.converts-requires

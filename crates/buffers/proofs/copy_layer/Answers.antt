@@ -4,7 +4,6 @@ use native.Mathlib.Omega.{arith}
 use Rattle.filter.specs.Limits.{most_steps}
 use Rattle.buffers.proofs.RowStarts.{allowed-more}
 use Rattle.buffers.proofs.Seen.{stays-own, copied-own, copied_none}
-use borrow.Author.Rules.{rules}
 use Rattle.buffers.proofs.copy_layer.Goals as goal
 
 pub stays-requires : goal.stays-requires

@@ -5,7 +5,6 @@ use native.Mathlib.Omega.{arith}
 use Rattle.filter.specs.Limits.{most_steps}
 use Rattle.buffers.proofs.RowStarts.{allowed-more}
 use Rattle.buffers.proofs.Seen.{copied-own, copied_none}
-use borrow.Author.Rules.{rules}
 use Rattle.buffers.proofs.copy_own.Goals as goal
 
 pub converts-requires : goal.converts-requires

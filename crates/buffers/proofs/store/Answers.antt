@@ -3,7 +3,6 @@ use mathlib.Core.Path.{ap}
 use native.Mathlib.Omega.{arith}
 use Rattle.pixel.specs.Bytes.{pixel_at}
 use Rattle.buffers.proofs.RowStarts.{painted-move, row-bytes}
-use borrow.Author.Rules.{rules}
 use Rattle.buffers.proofs.store.Goals as goal
 
 pub returns : goal.returns

@@ -1,10 +1,7 @@
 -- `buffers::store_rows` meets its contract: each turn draws one row more. Assumes nothing.
-use Prim.Native.Nat.{◌-◌, ◌≤◌, max}
+use Prim.Native.Nat.{◌-◌}
 use mathlib.Core.Path.{refl}
 use native.Mathlib.Omega.{arith}
-use borrow.Author.Rules.{rules}
-use Rattle.buffers.specs.Drawn.{band}
-use Rattle.buffers.specs.Context.{DrawnIn}
 use Rattle.buffers.specs.Strip.{strip_at}
 use Rattle.pixel.proofs.PaintedRows.{painted-as}
 use Rattle.buffers.proofs.RowsFit.{strip-row-room}

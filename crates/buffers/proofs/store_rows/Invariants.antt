@@ -1,13 +1,7 @@
-use Prim.Native.Nat.{◌-◌, ◌≤◌, max}
-use mathlib.Core.Path.{refl}
-use native.Mathlib.Omega.{arith}
-use borrow.Author.Rules.{rules}
+use Prim.Native.Nat.{◌≤◌, max}
 use Rattle.buffers.specs.Drawn.{band}
 use Rattle.buffers.specs.Context.{DrawnIn}
 use Rattle.buffers.specs.Strip.{strip_at}
-use Rattle.pixel.proofs.PaintedRows.{painted-as}
-use Rattle.buffers.proofs.RowsFit.{strip-row-room}
-use Rattle.buffers.proofs.DrawnRows.{drawn-none, drawn-as, drawn-more}
 use Rattle.buffers.proofs.store_rows.Given as goal
 
 abbrev pub invariant-loop-y : goal.invariant-loop-y

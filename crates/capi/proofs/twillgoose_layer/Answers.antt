@@ -1,6 +1,5 @@
 -- `capi::twillgoose_layer` meets its contract. Assumes nothing.
 use mathlib.Core.Path.{ap}
-use borrow.Author.Rules.{rules}
 use Rattle.render.specs.declared.View.{View}
 use Rattle.capi.proofs.twillgoose_layer.Goals as goal
 

@@ -2,10 +2,16 @@
 use mathlib.Core.Path.{ap}
 use Rattle.capi.specs.declared.Redrawing.{Redrawing}
 use Rattle.capi.specs.Lines.{replied, number_for, place_for}
-use borrow.Author.Rules.{rules}
 use Rattle.capi.proofs.twillgoose_render.Goals as goal
 
 pub returns : goal.returns
 unfolding number_for place_for replied
 returns c =
-    (ap (λ (x : Redrawing). x.number) c.call_lines-rendered.ensures.answers, (ap (λ (x : Redrawing). x.place) c.call_lines-rendered.ensures.answers, (c.call_lines-rendered.ensures.layers.0, (c.call_lines-rendered.ensures.layers.1.0, c.call_lines-rendered.ensures.layers.1.1.1))))
+    let e = c.call_lines-rendered.ensures in
+    record {
+      number = ap (λ (x : Redrawing). x.number) e.answers;
+      place = ap (λ (x : Redrawing). x.place) e.answers;
+      layers = e.layers;
+      cleared = e.cleared;
+      valid = e.valid;
+    }

@@ -1,6 +1,5 @@
 -- `draw::clear_around` meets its contract: nothing is left to clear, or the whole layer is cleared. Assumes nothing.
 use mathlib.Core.Path.{sym, ◌∙◌}
-use borrow.Author.Rules.{rules}
 use Rattle.draw.proofs.Clearing.{cleared-covered, cleared-all}
 use Rattle.draw.proofs.clear_around.Goals as goal
 

@@ -5,7 +5,6 @@ use Rattle.filter.specs.Accepted.{Measured, Numbered}
 use Rattle.buffers.specs.Shown.{shown}
 use Rattle.draw_point.proofs.KindlessShapes.{kindless-values}
 use Rattle.draw.proofs.ShapeKnown.{others-kindless, checked-known, drawn-known}
-use borrow.Author.Rules.{rules}
 use Rattle.draw.proofs.draw_shape.Goals as goal
 
 pub draw_pass-requires : goal.draw_pass-requires
@@ -30,11 +29,11 @@ pub draw_convolve-requires : goal.draw_convolve-requires
 unfolding Measured Numbered reads
 draw_convolve-requires c =
     let f = checked-known _ _ c.in-Convolve.is c.args.context.w c.args.context.h c.args.context.n c.args.step.values c.requires.earlier.0 c.requires.earlier.1.shape c.requires.earlier.1.values in
-    (c.requires.drawable, ((f.0.0, f.1, f.2.0), (f.2.1, c.requires.earlier.2)))
+    record { drawable = c.requires.drawable; input_value = (f.0.0, f.1, f.2.0); divides = (f.2.1, c.requires.earlier.2) }
 
 pub draw_rows-requires : goal.draw_rows-requires
 draw_rows-requires c =
-    record { drawable = (c.requires.drawable.0, c.requires.earlier.0, c.requires.earlier.1.shape, others-kindless c.args.step.shape c.in_default.keys5); within = c.requires.earlier.2 }
+    record { drawable = (c.requires.drawable.0, c.requires.earlier.0, c.requires.earlier.1.shape, others-kindless c.args.step.shape c.in_default.not-Pass c.in_default.not-Map c.in_default.not-Pair c.in_default.not-Convolve); within = c.requires.earlier.2 }
 
 pub returns-in-Pass : goal.returns-in-Pass
 unfolding work_of
@@ -62,5 +61,5 @@ returns-in-Convolve c =
 pub returns-in_default : goal.returns-in_default
 returns-in_default c =
     let a = c.args in
-    let q = others-kindless a.step.shape c.in_default.keys5 in
+    let q = others-kindless a.step.shape c.in_default.not-Pass c.in_default.not-Map c.in_default.not-Pair c.in_default.not-Convolve in
     record { step_drawn = rw (kindless-values a.context.w a.context.h a.step.shape a.step.values (shown a.context a.src.now a.ws.now) q) c.draw_rows.ensures; work_buffer = record { long = refl } }

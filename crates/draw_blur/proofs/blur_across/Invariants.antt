@@ -1,19 +1,11 @@
-use Prim.Native.Nat.{ℕ, ◌+◌, ◌-◌, ◌*◌, ◌≤◌}
-use mathlib.Core.Path.{◌≡◌, refl, ◌∙◌}
-use mathlib.Core.Logic.{⊎_elim}
-use native.Mathlib.Omega.{arith}
-use borrow.Author.Rules.{rules}
+use Prim.Native.Nat.{◌-◌, ◌*◌, ◌≤◌}
+use mathlib.Core.Path.{◌≡◌}
 use lib.ListN.{length}
 use Rattle.buffers.specs.Shown.{shown}
 use Rattle.buffers.specs.Strip.{Strip}
-use Rattle.window.proofs.Numbers.{area-le}
-use Rattle.buffers.proofs.ShownInputs.{shown-blank}
 use Rattle.draw_window.specs.LineRules.{across_of}
-use Rattle.draw_window.proofs.StripRows.{strip-none, looked-at-in, strip-area}
-use Rattle.filter.specs.Limits.{longest_side, most_pixels}
+use Rattle.filter.specs.Limits.{longest_side}
 use Rattle.draw_blur.specs.BlurRule.{blurs}
-use Rattle.draw_blur.proofs.BlurBanded.{blurs-banded}
-use Rattle.draw_blur.proofs.RowsAsLanes.{lanes-worked, strip-gathered, rows-room}
 use Rattle.draw_blur.proofs.blur_across.Given as goal
 
 abbrev pub invariant-loop-y : goal.invariant-loop-y

@@ -1,8 +1,6 @@
 -- `draw_blur::blur_down` meets its contract: the lines of a strip are its rows. Assumes nothing.
-use Prim.Native.Nat.{◌*◌, ◌/◌}
 use mathlib.Core.Logic.{⊎_elim}
 use native.Mathlib.Omega.{arith}
-use borrow.Author.Rules.{rules}
 use Rattle.draw_window.proofs.StripRows.{whole-pixels}
 use Rattle.draw_blur.proofs.blur_down.Goals as goal
 

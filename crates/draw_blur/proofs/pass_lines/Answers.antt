@@ -3,11 +3,8 @@ use mathlib.Core.Path.{refl}
 use mathlib.Core.Logic.{inl, inr}
 use native.Mathlib.Omega.{arith}
 use borrow.Author.Rules.{rules}
-use Rattle.draw_blur.proofs.BlurBanded.{worked-none, worked-passes}
+use Rattle.draw_blur.proofs.BlurBanded.{worked-passes}
 use Rattle.draw_blur.proofs.pass_lines.Goals as goal
-
-pub returns-then-d-lt2 : goal.returns-then-d-lt2
-returns-then-d-lt2 c = (worked-none _ _ _ _ c.if-d-lt2.true, inl refl)
 
 pub blur_lines-requires : goal.blur_lines-requires
 blur_lines-requires c =

@@ -7,12 +7,6 @@ use Rattle.buffers.proofs.RowsFit.{sized-limits}
 use Rattle.buffers.proofs.ShownInputs.{shown-blank}
 use Rattle.buffers.proofs.DrawnRows.{drawn-none}
 use Rattle.draw_convolve.proofs.ConvolvedRows.{convolves, convolve-drawn}
-use borrow.Author.Rules.{rules}
-use Rattle.draw_convolve.proofs.draw_convolve.Reads as reads
-use Rattle.draw_convolve.proofs.draw_convolve.Lts as lts
-use Rattle.draw_convolve.proofs.paint_rows.Reads as paint-rows-reads
-use Rattle.draw_convolve.proofs.stage.rows_read.Reads as rows-read-reads
-use Rattle.draw_convolve.proofs.stage.stage.Reads as stage-reads
 use Rattle.draw_convolve.proofs.draw_convolve.Goals as goal
 
 pub returns-then-rect : goal.returns-then-rect
@@ -26,14 +20,14 @@ returns-then-rect-2 c =
 pub paint_rows-requires : goal.paint_rows-requires
 paint_rows-requires c =
     let D = c.requires.drawable.0 in
-    record { in_limits = (sized-limits _ _ _ D.readable.sized, D.readable.sized.workspace, c.requires.input_value.1.1, omega (arith, c.if-rect.false)); scratch_len = (c.stage.ensures.1.long ∙ c.requires.drawable.1, convolves _ _ c.requires.input_value.0.1 c.requires.input_value.0.2 c.requires.input_value.1.0) }
+    record { in_limits = (sized-limits _ _ _ D.readable.sized, D.readable.sized.workspace, c.requires.divides.1, omega (arith, c.if-rect.false)); scratch_len = (c.stage.ensures.1.long ∙ c.requires.drawable.1, convolves _ _ c.requires.input_value.1 c.requires.input_value.2 c.requires.divides.0) }
 
 pub returns : goal.returns
 returns c =
     let a = c.args in
     let g : Picture = shown a.context a.source.now a.workspace.now a.input in
     record {
-      convolve_drawn = convolve-drawn a.context a.convolution a.values a.input a.rect a.source.now a.workspace.now _ c.requires.input_value.1.1
+      convolve_drawn = convolve-drawn a.context a.convolution a.values a.input a.rect a.source.now a.workspace.now _ c.requires.divides.1
           (c.paint_rows.ensures g (record {
             from = c.rows_read-rows.result.from;
             to = c.rows_read-rows.result.to;

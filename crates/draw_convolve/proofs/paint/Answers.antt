@@ -7,12 +7,6 @@ use Rattle.pixel.proofs.PaintedRows.{painted-as}
 use Rattle.kernel_lines.specs.Convolved.{line_pixel}
 use Rattle.kernel_lines.proofs.ConvolvedLines.{line-is}
 use Rattle.buffers.proofs.LoadedRows.{part-long, painted-into}
-use borrow.Author.Rules.{rules}
-use Rattle.draw_convolve.proofs.paint.Reads as reads
-use Rattle.draw_convolve.proofs.paint.Lts as lts
-use Rattle.buffers.proofs.start.Reads as start-reads
-use Rattle.draw_convolve.proofs.lines.lay_lines.Reads as lay-lines-reads
-use Rattle.kernel_convolve.proofs.convolve_row.Reads as convolve-row-reads
 use Rattle.draw_convolve.proofs.paint.Goals as goal
 
 pub convolve_row-requires : goal.convolve_row-requires

@@ -1,19 +1,8 @@
 -- `draw_convolve::paint_rows` meets its contract: each turn draws one row more. Assumes nothing.
-use Prim.Native.Nat.{◌-◌, ◌≤◌, max}
-use mathlib.Core.Path.{◌≡◌, refl, ◌∙◌}
+use mathlib.Core.Path.{refl, ◌∙◌}
 use native.Mathlib.Omega.{arith}
-use lib.ListN.{length}
-use borrow.Author.Rules.{rules}
-use Rattle.kernel_lines.specs.Lines.{all_lines}
-use Rattle.filter.specs.Picture.{Picture}
-use Rattle.buffers.specs.Drawn.{band}
 use Rattle.buffers.proofs.DrawnRows.{drawn-none, drawn-as, drawn-more}
-use Rattle.draw_convolve.specs.Convolved.{RectConvolved}
-use Rattle.draw_convolve.specs.Staged.{ScratchHolds}
 use Rattle.draw_convolve.proofs.ConvolvedRows.{holds_row}
-use Rattle.draw_convolve.proofs.paint_rows.Reads as reads
-use Rattle.draw_convolve.proofs.paint_rows.Lts as lts
-use Rattle.draw_convolve.proofs.paint.Reads as paint-reads
 use Rattle.draw_convolve.proofs.paint_rows.Goals as goal
 
 pub loop-y-init : goal.loop-y-init
@@ -28,9 +17,6 @@ paint-requires c =
 
 pub overflow_step-y : goal.overflow_step-y
 overflow_step-y c = omega (arith, c.loop-y-test.true, c.requires.in_limits.2.bottom, c.requires.in_limits.0.high)
-
-pub loop-y-smaller : goal.loop-y-smaller
-loop-y-smaller c = omega (arith, c.loop-y-test.true)
 
 pub loop-y-preserved : goal.loop-y-preserved
 loop-y-preserved c =

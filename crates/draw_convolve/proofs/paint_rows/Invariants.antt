@@ -1,18 +1,11 @@
-use Prim.Native.Nat.{◌-◌, ◌≤◌, max}
-use mathlib.Core.Path.{◌≡◌, refl, ◌∙◌}
-use native.Mathlib.Omega.{arith}
+use Prim.Native.Nat.{◌≤◌, max}
+use mathlib.Core.Path.{◌≡◌}
 use lib.ListN.{length}
-use borrow.Author.Rules.{rules}
 use Rattle.kernel_lines.specs.Lines.{all_lines}
 use Rattle.filter.specs.Picture.{Picture}
 use Rattle.buffers.specs.Drawn.{band}
-use Rattle.buffers.proofs.DrawnRows.{drawn-none, drawn-as, drawn-more}
 use Rattle.draw_convolve.specs.Convolved.{RectConvolved}
 use Rattle.draw_convolve.specs.Staged.{ScratchHolds}
-use Rattle.draw_convolve.proofs.ConvolvedRows.{holds_row}
-use Rattle.draw_convolve.proofs.paint_rows.Reads as reads
-use Rattle.draw_convolve.proofs.paint_rows.Lts as lts
-use Rattle.draw_convolve.proofs.paint.Reads as paint-reads
 use Rattle.draw_convolve.proofs.paint_rows.Given as goal
 
 abbrev pub invariant-loop-y : goal.invariant-loop-y

@@ -5,7 +5,6 @@ use Rattle.buffers.specs.Shown.{shown}
 use Rattle.buffers.proofs.DrawnRows.{drawn-none, drawn-new}
 use Rattle.buffers.proofs.ShownInputs.{drawable-valid}
 use Rattle.draw_curve.proofs.MapsFilled.{remapped-held}
-use borrow.Author.Rules.{rules}
 use Rattle.draw_curve.proofs.draw_curve.Goals as goal
 
 pub returns-then-rect : goal.returns-then-rect

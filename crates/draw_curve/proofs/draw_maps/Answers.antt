@@ -1,11 +1,9 @@
 -- `draw_curve::draw_maps` meets its contract: tables have a conversion in them where the input is converted, and none else. Assumes nothing.
-use Prim.Native.Nat.{◌≤◌}
 use mathlib.Core.Path.{sym, ◌∙◌}
 use native.Mathlib.Omega.{arith}
-use borrow.Author.Tests.{not-true, not-false, lt-ltb}
+use borrow.Author.Tests.{lt-ltb}
 use Rattle.filter.specs.Limits.{most_steps}
 use Rattle.buffers.proofs.RowStarts.{allowed-more}
-use borrow.Author.Rules.{rules}
 use Rattle.draw_curve.proofs.draw_maps.Goals as goal
 
 pub draw_prepared-requires : goal.draw_prepared-requires
@@ -18,12 +16,12 @@ converts-requires c =
 
 pub draw_tabled-requires : goal.draw_tabled-requires
 draw_tabled-requires c =
-    (c.requires.drawable, ((c.requires.within.0, c.requires.within.1), (c.requires.within.2, record { good = λ l. absurd (omega arith) }, sym (not-true _ c.if-not-converts.true) ∙ c.converts.ensures)))
+    record { drawable = c.requires.drawable; within = (c.requires.within.0, c.requires.within.1); maps_len = (c.requires.within.2, record { good = λ l. absurd (omega arith) }, sym c.if-not-converts.true ∙ c.converts.ensures) }
 
 pub draw_tabled-requires-then-pairs-gt0 : goal.draw_tabled-requires-then-pairs-gt0
 draw_tabled-requires-then-pairs-gt0 c =
     let R = c.requires.drawable.0.readable in
-    (c.requires.drawable, ((c.requires.within.0, c.requires.within.1), (c.requires.within.2, record { good = R.tabled.good }, lt-ltb 0 _ c.if-pairs-gt0.true ∙ sym (not-false _ c.if-not-converts.false) ∙ c.converts.ensures)))
+    record { drawable = c.requires.drawable; within = (c.requires.within.0, c.requires.within.1); maps_len = (c.requires.within.2, record { good = R.tabled.good }, lt-ltb 0 _ c.if-pairs-gt0.true ∙ sym c.if-not-converts.false ∙ c.converts.ensures) }
 
 pub draw_prepared-requires-2 : goal.draw_prepared-requires-2
 draw_prepared-requires-2 c =

@@ -6,7 +6,6 @@ use lib.ListN.{length}
 use Rattle.buffers.proofs.LoadedRows.{loaded-pixel, loaded-valid, part-long, painted-into}
 use Rattle.draw_curve.specs.Code.{tabled?, read_for, worked_by}
 use Rattle.draw_curve.proofs.Curved.{read-valid, worked-is}
-use borrow.Author.Rules.{rules}
 use Rattle.draw_curve.proofs.paint.Goals as goal
 
 pub load_for-requires : goal.load_for-requires

@@ -1,16 +1,9 @@
-use Prim.Native.Nat.{◌-◌, ◌*◌, ◌≤◌, ◌<◌, max}
-use mathlib.Core.Path.{◌≡◌, sym, ap, ◌∙◌}
-use native.Mathlib.Omega.{arith}
+use Prim.Native.Nat.{◌-◌, ◌*◌, ◌≤◌, max}
+use mathlib.Core.Path.{◌≡◌}
 use lib.ListN.{length}
-use Rattle.pixel.proofs.PaintedRows.{painted-as}
-use Rattle.filter.specs.Picture.{Picture}
 use Rattle.buffers.specs.Drawn.{band}
-use Rattle.buffers.proofs.DrawnRows.{drawn-none, drawn-as, drawn-more}
-use Rattle.buffers.proofs.AfterDrawing.{drawable-later, input-later}
-use Rattle.pixel.specs.Remap.{remapped}
 use Rattle.kernel_remap.specs.Remaps.{maps_in}
 use Rattle.draw_curve.specs.Curve.{CurveDrawn}
-use borrow.Author.Rules.{rules}
 use Rattle.draw_curve.proofs.paint_rows.Given as goal
 
 abbrev pub invariant-loop-y : goal.invariant-loop-y

@@ -8,7 +8,6 @@ use Rattle.filter.proofs.AllowedCoefficients.{matrix-allowed}
 use Rattle.buffers.specs.Shown.{shown}
 use Rattle.buffers.proofs.DrawnRows.{drawn-new}
 use Rattle.draw_map.specs.Code.{by_method, AllowedMethod}
-use borrow.Author.Rules.{rules}
 use Rattle.draw_map.proofs.draw_map.Goals as goal
 
 pub draw_method-requires : goal.draw_method-requires

@@ -6,7 +6,6 @@ use native.Mathlib.Omega.{arith}
 use Rattle.window.specs.Limits.{longest_row}
 use Rattle.buffers.proofs.DrawnRows.{drawn-none}
 use Rattle.buffers.proofs.LoadedRows.{prefix-long}
-use borrow.Author.Rules.{rules}
 use Rattle.draw_map.proofs.draw_method.Goals as goal
 
 pub returns-then-rect : goal.returns-then-rect
@@ -22,4 +21,4 @@ pub paint_rows-requires : goal.paint_rows-requires
 paint_rows-requires c =
     let a = c.args in
     let few : 4 * (a.rect.right - a.rect.left) ≤ longest_row = omega (arith, c.requires.within.right, c.requires.drawable.0.readable.sized.wide) in
-    ((c.requires.drawable.0, c.requires.drawable.1), ((c.requires.within, omega (arith, c.if-rect.false)), (c.prepare.ensures, sym (prefix-long _ few))))
+    record { drawable = (c.requires.drawable.0, c.requires.drawable.1); within = (c.requires.within, omega (arith, c.if-rect.false)); prepared = (c.prepare.ensures, sym (prefix-long _ few)) }

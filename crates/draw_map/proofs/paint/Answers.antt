@@ -8,7 +8,6 @@ use Rattle.buffers.proofs.LoadedRows.{loaded-pixel, loaded-valid, part-long, pai
 use Rattle.buffers.proofs.Seen.{held}
 use Rattle.draw_map.specs.Code.{by_method}
 use Rattle.buffers.proofs.ShownInputs.{drawable-valid}
-use borrow.Author.Rules.{rules}
 use Rattle.draw_map.proofs.paint.Goals as goal
 
 pub copy_layer-requires : goal.copy_layer-requires
@@ -18,10 +17,12 @@ copy_layer-requires c =
 pub see-seen-requires : goal.see-seen-requires
 see-seen-requires c =
     let C = c.copy_layer.ensures in
-    let a = c.args in (
-      (c.requires.drawable.0.readable, c.requires.drawable.2),
-      ((c.requires.drawable.1, omega (arith, C.long, c.requires.prepared.1)), held a.context a.mapping.input a.part a.source.now a.workspace.now _ _ _ C),
-    )
+    let a = c.args in
+    record {
+      readable = (c.requires.drawable.0.readable, c.requires.drawable.2);
+      input_value = (c.requires.drawable.1, omega (arith, C.long, c.requires.prepared.1));
+      layer_held = held a.context a.mapping.input a.part a.source.now a.workspace.now _ _ _ C;
+    }
 
 pub map_row-requires : goal.map_row-requires
 map_row-requires c =

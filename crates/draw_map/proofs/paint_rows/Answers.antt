@@ -1,33 +1,30 @@
 -- `draw_map::paint_rows` meets its contract: each turn draws one row more, worked from an input that the rows before left alone.
 -- Assumes nothing.
-use Prim.Native.Nat.{◌-◌, ◌*◌, ◌≤◌, ◌<◌, max}
-use mathlib.Core.Path.{◌≡◌, sym, ap, ◌∙◌}
+use Prim.Native.Nat.{◌<◌}
+use mathlib.Core.Path.{sym, ap, ◌∙◌}
 use native.Mathlib.Omega.{arith}
-use lib.ListN.{length}
 use Rattle.pixel.proofs.PaintedRows.{painted-as}
 use Rattle.filter.specs.Picture.{Picture}
-use Rattle.buffers.specs.Drawn.{band}
 use Rattle.buffers.proofs.DrawnRows.{drawn-none, drawn-as, drawn-more}
 use Rattle.buffers.proofs.AfterDrawing.{drawable-later, input-later}
-use Rattle.draw_map.specs.Code.{by_method, MappingDrawn}
-use borrow.Author.Rules.{rules}
+use Rattle.draw_map.specs.Code.{by_method}
 use Rattle.draw_map.proofs.paint_rows.Goals as goal
 
 pub loop-y-init : goal.loop-y-init
 loop-y-init c =
-    (omega arith, omega arith, drawn-none _ _ _ _ _ _ (λ x y i. absurd (omega (arith, i.top, i.bottom))), c.requires.within.1.1)
+    (omega arith, omega arith, drawn-none _ _ _ _ _ _ (λ x y i. absurd (omega (arith, i.top, i.bottom))), c.requires.prepared.1)
 
 pub paint-requires : goal.paint-requires
 paint-requires c =
     let a = c.args in
     let L = c.loop-y in
     let D = drawable-later a.context _ _ a.source.now a.workspace.now L.workspace a.pairs.now L.invariant.2 c.requires.drawable.0 in
-    let high : L.y < a.context.h = omega (arith, c.loop-y-test.true, c.requires.within.0.0.bottom) in
-    record { drawable = (D, c.requires.drawable.1, record { high = high; order = c.requires.within.0.1; wide = c.requires.within.0.0.right }); prepared = (c.requires.within.1.0, L.invariant.3) }
+    let high : L.y < a.context.h = omega (arith, c.loop-y-test.true, c.requires.within.0.bottom) in
+    record { drawable = (D, c.requires.drawable.1, record { high = high; order = c.requires.within.1; wide = c.requires.within.0.right }); prepared = (c.requires.prepared.0, L.invariant.3) }
 
 pub overflow_step-y : goal.overflow_step-y
 overflow_step-y c =
-    omega (arith, c.loop-y-test.true, c.requires.within.0.0.bottom, c.requires.drawable.0.readable.sized.high)
+    omega (arith, c.loop-y-test.true, c.requires.within.0.bottom, c.requires.drawable.0.readable.sized.high)
 
 pub loop-y-preserved : goal.loop-y-preserved
 loop-y-preserved c =
@@ -35,12 +32,12 @@ loop-y-preserved c =
     let L = c.loop-y in
     let I = L.invariant in
     let same = input-later a.context _ _ a.source.now a.workspace.now L.workspace I.2 a.mapping.input c.requires.drawable.1 in
-    let high : L.y < a.context.h = omega (arith, c.loop-y-test.true, c.requires.within.0.0.bottom) in (
+    let high : L.y < a.context.h = omega (arith, c.loop-y-test.true, c.requires.within.0.bottom) in (
       omega (arith, I.0),
       omega (arith, c.loop-y-test.true, I.1),
       drawn-more _ _ _ _ _ _ _ _ _ _ _ I.2
           (painted-as _ _ _ _ _ _ _ (λ x l m. ap (λ (p : Picture). by_method a.mapping.method (p x L.y)) same) c.paint.ensures)
-          I.0 c.requires.within.0.1 c.requires.within.0.0.right high,
+          I.0 c.requires.within.1 c.requires.within.0.right high,
       c.paint.auto.a ∙ I.3,
     )
 
@@ -49,7 +46,7 @@ shape_of-workspace c = c.loop-y.invariant.2.long
 
 pub shape_of-a : goal.shape_of-a
 shape_of-a c =
-    c.loop-y.invariant.3 ∙ sym c.requires.within.1.1
+    c.loop-y.invariant.3 ∙ sym c.requires.prepared.1
 
 pub returns : goal.returns
 returns c =

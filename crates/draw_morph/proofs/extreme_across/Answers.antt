@@ -1,18 +1,12 @@
 -- `draw_morph::extreme_across` meets its contract: each turn adds one row to the strip. Assumes nothing.
-use Prim.Native.Nat.{◌+◌, ◌-◌, ◌*◌, ◌≤◌}
+use Prim.Native.Nat.{◌-◌}
 use mathlib.Core.Path.{◌≡◌, refl, ◌∙◌}
 use native.Mathlib.Omega.{arith}
 use borrow.Author.Rules.{rules}
-use lib.ListN.{length}
-use Rattle.buffers.specs.Shown.{shown}
-use Rattle.buffers.specs.Strip.{Strip}
 use Rattle.buffers.proofs.ShownInputs.{shown-blank}
-use Rattle.draw_window.specs.LineRules.{across_of}
 use Rattle.buffers.proofs.RowsFit.{strip-row-room}
 use Rattle.draw_window.proofs.StripRows.{strip-none, strip-painted}
 use Rattle.draw_window.proofs.BandIsEnough.{band-row}
-use Rattle.filter.specs.Limits.{longest_row}
-use Rattle.draw_morph.specs.ExtremeRule.{extremes}
 use Rattle.draw_morph.proofs.ExtremeBanded.{extremes-banded}
 use Rattle.draw_morph.proofs.extreme_across.Goals as goal
 
@@ -35,14 +29,14 @@ extreme_row-requires c =
     let R = c.looked_at-span.ensures in
     let L = c.loop-y in
     let t = c.args.strip in
-    record { line_len = (omega (arith, c.Load-Line.ensures.long, L.invariant.2), omega arith, omega (arith, c.requires.readable.0.sized.wide), c.requires.readable.2, c.requires.readable.3); width_bound = (omega arith, omega (arith, strip-row-room L.y t.top t.bottom (t.right - t.left) (omega arith) (omega arith), L.invariant.3)) }
+    record { line_len = (omega (arith, c.load_line.ensures.long, L.invariant.2), omega arith, omega (arith, c.requires.readable.0.sized.wide), c.requires.readable.2, c.requires.readable.3); width_bound = (omega arith, omega (arith, strip-row-room L.y t.top t.bottom (t.right - t.left) (omega arith) (omega arith), L.invariant.3)) }
 
 pub loop-y-preserved : goal.loop-y-preserved
 loop-y-preserved c =
     let a = c.args in
     let R = c.looked_at-span.ensures in
     let L = c.loop-y in
-    let G = c.Load-Line.ensures in
+    let G = c.load_line.ensures in
     let P = c.extreme_row.ensures in (
       omega arith,
       omega arith,

@@ -1,9 +1,6 @@
 -- `draw_morph::extreme_down` meets its contract: the lines of a strip are its rows. Assumes nothing.
-use Prim.Native.Nat.{ℕ, ◌+◌, ◌-◌, ◌*◌, ◌/◌, ◌≤◌}
-use mathlib.Core.Path.{◌≡◌, sym}
 use mathlib.Core.Logic.{inl, ⊎_elim}
 use native.Mathlib.Omega.{arith}
-use borrow.Author.Rules.{rules}
 use Rattle.draw_window.proofs.StripRows.{whole-pixels}
 use Rattle.draw_morph.proofs.ExtremeBanded.{worked-extremes}
 use Rattle.draw_morph.proofs.extreme_down.Goals as goal

@@ -2,7 +2,6 @@
 use Prim.Native.Nat.{◌+◌, ◌-◌, ◌*◌, ◌/◌}
 use mathlib.Core.Logic.{inl, ⊎_elim}
 use native.Mathlib.Omega.{arith}
-use borrow.Author.Rules.{rules}
 use Rattle.pixel.proofs.PaintedRows.{painted-as}
 use Rattle.draw_window.proofs.PixelChannels.{row-pixel}
 use Rattle.draw_window.proofs.StripRows.{whole-pixels}

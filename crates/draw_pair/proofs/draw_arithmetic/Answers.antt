@@ -16,7 +16,7 @@ prepare-requires c =
 pub draw_prepared-requires : goal.draw_prepared-requires
 unfolding Prepared
 draw_prepared-requires c =
-    ((c.requires.drawable.0, c.prepare.ensures), (c.requires.i_value.0, c.requires.i_value.1))
+    record { drawable = (c.requires.drawable.0, c.prepare.ensures); i_value = c.requires.i_value; within = c.requires.within }
 
 pub returns : goal.returns
 unfolding by_method

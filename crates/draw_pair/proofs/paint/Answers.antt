@@ -1,6 +1,6 @@
 -- `draw_pair::paint` meets its contract: the kernel reads the rows that the step sees. Assumes nothing.
 use Prim.Native.Nat.{◌+◌, ◌-◌, ◌*◌, ◌≤◌}
-use mathlib.Core.Path.{refl, ap₂, ◌∙◌}
+use mathlib.Core.Path.{refl, ap₂}
 use native.Mathlib.Omega.{arith}
 use lib.ListN.{length}
 use Rattle.buffers.specs.Shown.{shown}
@@ -8,36 +8,39 @@ use Rattle.buffers.proofs.LoadedRows.{loaded-pixel, loaded-valid, part-long, pai
 use Rattle.buffers.proofs.Seen.{held}
 use Rattle.draw_pair.specs.Code.{by_method}
 use Rattle.buffers.proofs.ShownInputs.{drawable-valid}
-use borrow.Author.Rules.{rules}
 use Rattle.draw_pair.proofs.paint.Goals as goal
 
 pub copy_layer-requires : goal.copy_layer-requires
 copy_layer-requires c =
-    record { sized = (c.requires.drawable.0.readable.sized, c.requires.i_value.0.2); input_value = (c.requires.i_value.0.0, omega (arith, c.requires.i_value.1.0.0)) }
+    record { sized = (c.requires.drawable.0.readable.sized, c.requires.i_value.2); input_value = (c.requires.i_value.0, omega (arith, c.requires.a_len.0)) }
 
 pub copy_layer-requires-2 : goal.copy_layer-requires-2
 copy_layer-requires-2 c =
-    record { sized = (c.requires.drawable.0.readable.sized, c.requires.i_value.0.2); input_value = (c.requires.i_value.0.1, omega (arith, c.requires.i_value.1.0.1)) }
+    record { sized = (c.requires.drawable.0.readable.sized, c.requires.i_value.2); input_value = (c.requires.i_value.1, omega (arith, c.requires.a_len.1)) }
 
 pub see-first-requires : goal.see-first-requires
 see-first-requires c =
     let C = c.copy_layer.ensures in
-    let a = c.args in (
-      (c.requires.drawable.0.readable, c.requires.i_value.0.2),
-      ((c.requires.i_value.0.0, omega (arith, C.long, c.requires.i_value.1.0.0)), held a.pairing.context a.pairing.i a.part a.source.now a.workspace.now _ _ _ C),
-    )
+    let a = c.args in
+    record {
+      readable = (c.requires.drawable.0.readable, c.requires.i_value.2);
+      input_value = (c.requires.i_value.0, omega (arith, C.long, c.requires.a_len.0));
+      layer_held = held a.pairing.context a.pairing.i a.part a.source.now a.workspace.now _ _ _ C;
+    }
 
 pub see-second-requires : goal.see-second-requires
 see-second-requires c =
     let C = c.copy_layer-2.ensures in
-    let a = c.args in (
-      (c.requires.drawable.0.readable, c.requires.i_value.0.2),
-      ((c.requires.i_value.0.1, omega (arith, C.long, c.requires.i_value.1.0.1)), held a.pairing.context a.pairing.j a.part a.source.now a.workspace.now _ _ _ C),
-    )
+    let a = c.args in
+    record {
+      readable = (c.requires.drawable.0.readable, c.requires.i_value.2);
+      input_value = (c.requires.i_value.1, omega (arith, C.long, c.requires.a_len.1));
+      layer_held = held a.pairing.context a.pairing.j a.part a.source.now a.workspace.now _ _ _ C;
+    }
 
 pub slice_bounds-pair_row-end : goal.slice_bounds-pair_row-end
 slice_bounds-pair_row-end c =
-    let R = c.requires.i_value.0.2 in
+    let R = c.requires.i_value.2 in
     omega (arith, c.start-lo.ensures.from_bound, c.requires.drawable.0.readable.sized.workspace, R.order, R.wide)
 
 pub pair_row-requires : goal.pair_row-requires
@@ -46,15 +49,12 @@ pair_row-requires c =
     let second = c.see-second.ensures in
     let a = c.args in
     let D = c.requires.drawable.0 in
-    let R = c.requires.i_value.0.2 in
+    let R = c.requires.i_value.2 in
     let fits : c.start-lo.result + 4 * (a.part.to - a.part.from) ≤ length a.workspace.now = omega (arith, c.start-lo.ensures.from_bound, D.readable.sized.workspace, R.order, R.wide) in
-    let va = loaded-valid _ _ _ _ _ _ first.held ((drawable-valid _ _ _ _ D).valid _ c.requires.i_value.0.0) in
-    let vb = loaded-valid _ _ _ _ _ _ second.held ((drawable-valid _ _ _ _ D).valid _ c.requires.i_value.0.1) in
+    let va = loaded-valid _ _ _ _ _ _ first.held ((drawable-valid _ _ _ _ D).valid _ c.requires.i_value.0) in
+    let vb = loaded-valid _ _ _ _ _ _ second.held ((drawable-valid _ _ _ _ D).valid _ c.requires.i_value.1) in
     let ld = part-long c.start-lo.result (a.part.to - a.part.from) a.workspace.now fits in
-    record { prepared = (c.requires.drawable.1, va, vb); a_len = (first.long, second.long, c.requires.i_value.1.1.0, c.requires.i_value.1.1.1, ld) }
-
-pub shape_of-a : goal.shape_of-a
-shape_of-a c = c.a-2-1.given.1 ∙ c.copy_layer.ensures.long
+    record { prepared = (c.requires.drawable.1, va, vb); a_len = (first.long, second.long, c.requires.f_len.0, c.requires.f_len.1, ld) }
 
 pub returns : goal.returns
 returns c =
@@ -62,7 +62,7 @@ returns c =
     let two = c.see-second.ensures in
     let a = c.args in
     let D = c.requires.drawable.0 in
-    let R = c.requires.i_value.0.2 in
+    let R = c.requires.i_value.2 in
     let E = shown a.pairing.context a.source.now a.workspace.now in
     let fits : c.start-lo.result + 4 * (a.part.to - a.part.from) ≤ length a.workspace.now = omega (arith, c.start-lo.ensures.from_bound, D.readable.sized.workspace, R.order, R.wide) in
     let first = loaded-pixel (E a.pairing.i) a.part.y a.part.from a.part.to _ _ one.held in

@@ -1,14 +1,8 @@
-use Prim.Native.Nat.{◌-◌, ◌*◌, ◌≤◌, ◌<◌, max}
-use mathlib.Core.Path.{◌≡◌, sym, ap₂, ◌∙◌}
-use native.Mathlib.Omega.{arith}
+use Prim.Native.Nat.{◌-◌, ◌*◌, ◌≤◌, max}
+use mathlib.Core.Path.{◌≡◌}
 use lib.ListN.{length}
-use Rattle.pixel.proofs.PaintedRows.{painted-as}
-use Rattle.filter.specs.Picture.{Picture}
 use Rattle.buffers.specs.Drawn.{band}
-use Rattle.buffers.proofs.DrawnRows.{drawn-none, drawn-as, drawn-more}
-use Rattle.buffers.proofs.AfterDrawing.{drawable-later, input-later}
-use Rattle.draw_pair.specs.Code.{by_method, PairingDrawn}
-use borrow.Author.Rules.{rules}
+use Rattle.draw_pair.specs.Code.{PairingDrawn}
 use Rattle.draw_pair.proofs.paint_rows.Given as goal
 
 abbrev pub invariant-loop-y : goal.invariant-loop-y

@@ -1,5 +1,4 @@
 -- `draw_pass::down` meets its contract, kind by kind. Assumes nothing.
-use borrow.Author.Rules.{rules}
 use Rattle.draw_pass.specs.PassRule.{rule_of}
 use Rattle.draw_pass.proofs.down.Goals as goal
 

@@ -4,10 +4,12 @@ use mathlib.Core.Path.{refl}
 use native.Mathlib.Omega.{arith}
 use borrow.Author.Rules.{rules}
 use Rattle.window.proofs.Numbers.{area-le}
-use Rattle.buffers.specs.Buffers.{Sized}
+use Rattle.filter.specs.declared.Rect.{Rect}
+use Rattle.filter.specs.Accepted.{Within}
 use Rattle.buffers.proofs.RowsFit.{sized-limits}
 use Rattle.buffers.proofs.ShownInputs.{shown-blank}
 use Rattle.buffers.proofs.DrawnRows.{drawn-none}
+use Rattle.draw_window.specs.LookedAt.{LookedAt}
 use Rattle.draw_window.specs.Strips.{StripOn}
 use Rattle.draw_window.proofs.StripRows.{looked-at-in, strip-area}
 use Rattle.draw_window.proofs.BandIsEnough.{drawn-both}
@@ -22,56 +24,59 @@ pub returns-then-rect-2 : goal.returns-then-rect-2
 returns-then-rect-2 c =
     record { pass_drawn = drawn-none _ _ _ _ _ _ (λ x y i. absurd (omega (arith, i.top, i.bottom))); work_buffer = record { long = refl } }
 
--- what holds once the rows are known
-module _ (g : tie.After-looked-at) where
-  abbrev s : tie.Start
-  s = g.before.before.before.before.before.before.before.before.before.before.before
+-- the rows that are looked at make a strip of the canvas
+module _ (w h : ℕ) (r : Rect) (back ahead lo hi : ℕ) (W : Within w h r) (some : r.left < r.right) (any : r.top < r.bottom) (R : LookedAt h r.top r.bottom back ahead lo hi) where
+  inner : (lo ≤ r.top) × (r.bottom ≤ hi) × (hi ≤ h)
+  inner = looked-at-in _ _ _ _ _ _ _ R any W.bottom
 
-  wide : s.args.rect.left < s.args.rect.right
-  wide = omega (arith, g.before.before.before.before.before.if1.left)
+  area : (bottom : ℕ) → bottom ≤ h → (bottom - lo) * (r.right - r.left) ≤ w * h
+  area bottom l = strip-area w h r.left r.right lo bottom W.right l
 
-  high : s.args.rect.top < s.args.rect.bottom
-  high = omega (arith, g.before.before.before.if2.left)
-
-  inner : (g.looked-at.result.from ≤ s.args.rect.top) × (s.args.rect.bottom ≤ g.looked-at.result.to) × (g.looked-at.result.to ≤ s.args.context.h)
-  inner = looked-at-in _ _ _ _ _ _ _ g.looked-at.ensures high s.pre.1.3.bottom
-
-  area : (bottom : ℕ) → bottom ≤ s.args.context.h → (bottom - g.looked-at.result.from) * (s.args.rect.right - s.args.rect.left) ≤ s.args.context.w * s.args.context.h
-  area bottom l = strip-area s.args.context.w s.args.context.h s.args.rect.left s.args.rect.right g.looked-at.result.from bottom s.pre.1.3.right l
-
-  -- the strip lies on the canvas
-  strip : StripOn s.args.context.w s.args.context.h (record { left = s.args.rect.left; right = s.args.rect.right; top = g.looked-at.result.from; bottom = g.looked-at.result.to })
-  strip = record { some_wide = wide; wide = s.pre.1.3.right; some_high = omega (arith, inner.0, inner.1, high); high = inner.2 }
-
-  sized : Sized s.args.context.w s.args.context.h s.args.context.n s.args.source.now s.args.workspace.now
-  sized = s.pre.0.0.sized
+  strip : StripOn w h (record { left = r.left; right = r.right; top = lo; bottom = hi })
+  strip = record { some_wide = some; wide = W.right; some_high = omega (arith, inner.0, inner.1, any); high = inner.2 }
 
 pub across-requires : goal.across-requires
 across-requires c =
-    record { readable = ((s c).requires.0.0, (s c).requires.1.0, omega (arith, (s c).requires.1.1, (s c).requires.1.2)); strip_on = (strip c, omega (arith, area c c.looked_at-span.result.to (inner c).2, (s c).requires.0.1)) }
+    let a = c.args in
+    let I = c.requires.input_value in
+    let R = c.looked_at-span.ensures in
+    let S = strip a.context.w a.context.h a.rect _ _ _ _ I.3 (omega arith) (omega arith) R in
+    let k = area a.context.w a.context.h a.rect _ _ _ _ I.3 (omega arith) (omega arith) R c.looked_at-span.result.to S.high in
+    record { readable = (c.requires.readable.0, I.0, omega (arith, I.1, I.2)); strip_on = (S, omega (arith, k, c.requires.readable.1)) }
 
 pub overflow_mul-context : goal.overflow_mul-context
 overflow_mul-context c =
-    omega (arith, area-le (s c).args.context.w (s c).args.context.h (sized c).wide (sized c).high)
+    let Z = c.requires.readable.0.sized in
+    omega (arith, area-le c.args.context.w c.args.context.h Z.wide Z.high)
 
 pub down-at-requires : goal.down-at-requires
 down-at-requires c =
-    let t = strip c in
-    record { scratch_len = (omega (arith, (s c).requires.0.1), area-le (s c).args.context.w (s c).args.context.h (sized c).wide (sized c).high, omega (arith, (s c).requires.1.1, (s c).requires.1.2)); strip_on = (record { some_wide = t.some_wide; wide = omega (arith, t.wide, (sized c).wide); some_high = t.some_high; high = omega (arith, t.high, (sized c).high) }, area c c.looked_at-span.result.to t.high) }
+    let a = c.args in
+    let I = c.requires.input_value in
+    let Z = c.requires.readable.0.sized in
+    let R = c.looked_at-span.ensures in
+    let S = strip a.context.w a.context.h a.rect _ _ _ _ I.3 (omega arith) (omega arith) R in
+    let k = area a.context.w a.context.h a.rect _ _ _ _ I.3 (omega arith) (omega arith) R c.looked_at-span.result.to S.high in
+    record { scratch_len = (omega (arith, c.requires.readable.1), area-le a.context.w a.context.h Z.wide Z.high, omega (arith, I.1, I.2)); strip_on = (record { some_wide = S.some_wide; wide = omega (arith, S.wide, Z.wide); some_high = S.some_high; high = omega (arith, S.high, Z.high) }, k) }
 
 pub store_rows-requires : goal.store_rows-requires
 store_rows-requires c =
-    let long = (down-requires c c.down-at.lifetimes).0.0 in
-    record { in_limits = (sized-limits _ _ _ (sized c), (sized c).workspace, wide c, (s c).requires.1.3); first_le_top = ((inner c).0, omega (arith, area c (s c).args.rect.bottom (s c).requires.1.3.bottom, long, c.down-at.ensures.1, c.down-at.ensures.0.long)) }
+    let a = c.args in
+    let I = c.requires.input_value in
+    let Z = c.requires.readable.0.sized in
+    let R = c.looked_at-span.ensures in
+    let i = inner a.context.w a.context.h a.rect _ _ _ _ I.3 (omega arith) (omega arith) R in
+    let k = area a.context.w a.context.h a.rect _ _ _ _ I.3 (omega arith) (omega arith) R a.rect.bottom I.3.bottom in
+    record { in_limits = (sized-limits _ _ _ Z, Z.workspace, omega arith, I.3); first_le_top = (i.0, omega (arith, k, c.requires.readable.1, c.down-at.ensures.1, c.down-at.ensures.0.long)) }
 
 pub returns : goal.returns
 returns c =
-    let a = (s c).args in
+    let a = c.args in
     let A = rule-banded a.pass a.dx _ _ refl refl in
-    let D = rule-banded a.pass a.dy _ _ c.back_of-back.ensures.0 c.ahead_of_lem.ensures.0 in
+    let D = rule-banded a.pass a.dy _ _ c.back_of-back.ensures.0 c.ahead_of-ahead.ensures.0 in
     record {
       pass_drawn = drawn-both _ _ _ _ _ _ _ _ _ _ _ (shown-blank a.context a.source.now a.workspace.now a.input) A D
           (pass-is a.pass a.context.w a.context.h a.dx a.dy _)
-          a.rect _ _ _ _ _ _ _ (s c).requires.1.3 c.looked_at-span.ensures c.across.ensures c.down-at.ensures.0 c.store_rows.ensures;
+          a.rect _ _ _ _ _ _ _ c.requires.input_value.3 c.looked_at-span.ensures c.across.ensures c.down-at.ensures.0 c.store_rows.ensures;
       work_buffer = search rules;
     }

@@ -3,7 +3,6 @@
 use Prim.Native.Nat.{◌-◌, ◌*◌, ◌≤◌}
 use mathlib.Core.Path.{sym}
 use native.Mathlib.Omega.{arith}
-use borrow.Author.Rules.{rules}
 use Rattle.window.specs.Limits.{longest_row}
 use Rattle.buffers.proofs.DrawnRows.{drawn-none}
 use Rattle.buffers.proofs.LoadedRows.{prefix-long}
@@ -36,4 +35,4 @@ paint_rows-requires c =
     let few : 4 * (a.rect.right - a.rect.left) ≤ longest_row = omega (arith, c.requires.within.right, c.requires.drawable.0.readable.sized.wide) in
     let long = sym (prefix-long _ few) in
     let P = c.requires.drawable in
-    ((record { drawable = P.0; earlier = P.1; measured = P.2 }, P.3), ((c.requires.within, omega arith), (long, long, long)))
+    record { workable = (record { drawable = P.0; earlier = P.1; measured = P.2 }, P.3); within = (c.requires.within, omega arith); work_row = (long, long, long) }

@@ -1,5 +1,4 @@
 -- `draw_point::paint` meets its contract: the row of the shape that is known. Assumes nothing.
-use borrow.Author.Rules.{rules}
 use Rattle.filter.specs.Kinds.{work_of}
 use Rattle.buffers.proofs.RowsFit.{sized-limits}
 use Rattle.draw_point.specs.Kindless.{Kindless}

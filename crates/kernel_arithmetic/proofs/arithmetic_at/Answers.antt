@@ -1,5 +1,4 @@
 -- `kernel_arithmetic::arithmetic_at` meets its contract: the four bytes stored are the channels looked up, the colours lowered. Assumes nothing.
-use borrow.Author.Rules.{rules}
 use Rattle.pixel.specs.Arithmetic.{by_arithmetic}
 use Rattle.pixel.proofs.PaintedRows.{painted-as}
 use Rattle.kernel_arithmetic.proofs.arithmetic_at.Goals as goal

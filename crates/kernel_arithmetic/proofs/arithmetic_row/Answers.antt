@@ -1,10 +1,6 @@
 -- `kernel_arithmetic::arithmetic_row` meets its contract: one pixel more in each turn. Assumes nothing.
 use mathlib.Core.Path.{◌≡◌, refl}
-use Prim.Native.Nat.{◌-◌, ◌*◌, ◌≤◌}
 use native.Mathlib.Omega.{arith}
-use borrow.Author.Rules.{rules}
-use Rattle.pixel.specs.Arithmetic.{by_arithmetic}
-use Rattle.pixel.specs.Bytes.{pixel_at, Painted}
 use Rattle.pixel.proofs.PaintedRows.{painted-none, painted-more}
 use Rattle.kernel_arithmetic.proofs.arithmetic_row.Goals as goal
 

@@ -1,10 +1,6 @@
-use mathlib.Core.Path.{◌≡◌, refl}
-use Prim.Native.Nat.{◌-◌, ◌*◌, ◌≤◌}
-use native.Mathlib.Omega.{arith}
-use borrow.Author.Rules.{rules}
+use Prim.Native.Nat.{◌*◌, ◌≤◌}
 use Rattle.pixel.specs.Arithmetic.{by_arithmetic}
 use Rattle.pixel.specs.Bytes.{pixel_at, Painted}
-use Rattle.pixel.proofs.PaintedRows.{painted-none, painted-more}
 use Rattle.kernel_arithmetic.proofs.arithmetic_row.Given as goal
 
 abbrev pub invariant-loop-x : goal.invariant-loop-x

@@ -1,12 +1,10 @@
 -- `kernel_arithmetic::fill_line` meets its contract: one store more in each turn. Assumes nothing.
 use mathlib.Core.Path.{◌≡◌, ◌∙◌, ap₂}
-use Prim.Native.Nat.{ℕ, ◌+◌, ◌-◌, ◌/◌, ◌≤◌, ◌<◌, min}
+use Prim.Native.Nat.{ℕ, ◌+◌, ◌-◌, ◌/◌, ◌<◌, min}
 use lib.ListN.{length}
 use native.Mathlib.Omega.{arith}
 use borrow.Author.Rules.{rules}
-use Rattle.window.specs.Store.{Filled}
 use Rattle.window.proofs.Store.{filled_none, filled_more}
-use Rattle.kernel_arithmetic.specs.Code.{level}
 use Rattle.kernel_arithmetic.proofs.fill_line.Goals as goal
 
 pub loop-i-init : goal.loop-i-init

@@ -1,6 +1,5 @@
 -- `kernel_arithmetic::look` meets its contract: two bytes are below 256, and the table has its entry for them. Assumes nothing.
 use native.Mathlib.Omega.{arith}
-use borrow.Author.Rules.{rules}
 use Rattle.kernel_arithmetic.proofs.look.Goals as goal
 
 pub overflow_cast-result : goal.overflow_cast-result

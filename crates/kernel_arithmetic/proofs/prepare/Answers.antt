@@ -1,9 +1,7 @@
 -- `kernel_arithmetic::prepare` meets its contract. The loop keeps that the lines filled so far hold the channels. Assumes nothing.
-use mathlib.Core.Path.{◌≡◌, ◌∙◌}
-use Prim.Native.Nat.{ℕ, ◌+◌, ◌-◌, ◌*◌, ◌≤◌, ◌<◌}
-use lib.ListN.{length, get_or}
+use mathlib.Core.Path.{◌∙◌}
+use Prim.Native.Nat.{◌+◌}
 use native.Mathlib.Omega.{arith}
-use borrow.Author.Rules.{rules}
 use Rattle.pixel.specs.Arithmetic.{channel_of}
 use Rattle.kernel_arithmetic.specs.Code.{level}
 use Rattle.kernel_arithmetic.proofs.ChannelIsLine.{level-law}

@@ -1,12 +1,7 @@
-use mathlib.Core.Path.{◌≡◌, ◌∙◌}
-use Prim.Native.Nat.{ℕ, ◌+◌, ◌-◌, ◌*◌, ◌≤◌, ◌<◌}
+use mathlib.Core.Path.{◌≡◌}
+use Prim.Native.Nat.{ℕ, ◌+◌, ◌*◌, ◌≤◌, ◌<◌}
 use lib.ListN.{length, get_or}
-use native.Mathlib.Omega.{arith}
-use borrow.Author.Rules.{rules}
 use Rattle.pixel.specs.Arithmetic.{channel_of}
-use Rattle.kernel_arithmetic.specs.Code.{level}
-use Rattle.kernel_arithmetic.proofs.ChannelIsLine.{level-law}
-use Rattle.kernel_arithmetic.proofs.TableLines.{table-line-more}
 use Rattle.kernel_arithmetic.proofs.prepare.Given as goal
 
 abbrev pub invariant-loop-i : goal.invariant-loop-i

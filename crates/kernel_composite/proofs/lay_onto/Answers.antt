@@ -1,11 +1,9 @@
 -- `kernel_composite::lay_onto` meets its contract: one more pair of bytes each turn. Assumes nothing.
 use mathlib.Core.Path.{◌≡◌, refl}
-use Prim.Native.Nat.{◌-◌, ◌*◌, ◌≤◌}
+use Prim.Native.Nat.{◌*◌}
 use native.Mathlib.Omega.{arith}
-use borrow.Author.Rules.{rules}
-use Rattle.window.specs.Store.{Filled}
 use Rattle.window.proofs.Store.{filled_none}
-use Rattle.kernel_composite.specs.Code.{blended, row}
+use Rattle.kernel_composite.specs.Code.{row}
 use Rattle.kernel_composite.proofs.BytePairs.{weighs, blends, pair-more, row-even, row-odd, pair-kept}
 use Rattle.kernel_composite.proofs.lay_onto.Goals as goal
 

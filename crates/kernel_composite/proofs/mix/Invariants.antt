@@ -1,11 +1,6 @@
-use mathlib.Core.Path.{◌≡◌}
-use Prim.Native.Nat.{◌-◌, ◌*◌, ◌≤◌}
-use native.Mathlib.Omega.{arith}
-use borrow.Author.Rules.{rules}
+use Prim.Native.Nat.{◌*◌, ◌≤◌}
 use Rattle.window.specs.Store.{Filled}
-use Rattle.window.proofs.Store.{filled_none}
 use Rattle.kernel_composite.specs.Code.{blended, row}
-use Rattle.kernel_composite.proofs.BytePairs.{weighs, blends, pair-more, row-even, row-odd}
 use Rattle.kernel_composite.proofs.mix.Given as goal
 
 abbrev pub invariant-loop-j : goal.invariant-loop-j

@@ -11,7 +11,7 @@ lay_onto-requires c =
     let a = c.args.a.now in
     let b = c.args.dst.now in
     let w = weights-b Over a b a _ _ (rows-hold Over a b _ a _ a _ (over-rows a b _ a _ a _ c.inverse_alphas.ensures)) (λ x y. refl) refl in
-    record { a_len = search rules; fitting = fitting Over a b (λ _. 255) _ _ w (λ i. (c.type_inv.a i).fits) (λ i. (c.type_inv.dst i).fits) c.requires.valid_row.0 c.requires.valid_row.1 }
+    record { a_len = search rules; fitting = fitting Over a b (λ _. 255) _ _ w (λ i. (c.type_inv.a i).fits) (λ i. search rules) c.requires.valid_row.0 c.requires.valid_row.1 }
 
 pub returns : goal.returns
 returns c =

@@ -1,6 +1,5 @@
 -- `kernel_convolve::convolve_row` meets its contract: the law of a row that is summed and finished. Assumes nothing.
 use Rattle.kernel_convolve.proofs.FinishedRows.{convolved-row}
-use borrow.Author.Rules.{rules}
 use Rattle.kernel_convolve.proofs.convolve_row.Goals as goal
 
 pub returns : goal.returns

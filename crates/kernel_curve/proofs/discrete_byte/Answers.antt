@@ -1,10 +1,9 @@
 -- `kernel_curve::discrete_byte` meets its contract: the entry at the lesser place. Assumes nothing.
-use mathlib.Core.Path.{◌≡◌, ◌∙◌, ap}
+use mathlib.Core.Path.{◌∙◌, ap}
 use Prim.Native.Nat.{ℕ, ◌+◌, ◌-◌, ◌*◌, ◌/◌, min}
 use lib.ListN.{get_or}
 use native.Mathlib.Omega.{arith}
 use Rattle.pixel.specs.Curve.{discrete_channel}
-use borrow.Author.Rules.{rules}
 use Rattle.kernel_curve.proofs.discrete_byte.Goals as goal
 
 pub scaled-requires : goal.scaled-requires

@@ -1,11 +1,9 @@
 -- `kernel_curve::fill_bytes` meets its contract: one store more in each turn. Assumes nothing.
 use mathlib.Core.Path.{◌≡◌}
-use Prim.Native.Nat.{ℕ, ◌+◌, ◌-◌, ◌≤◌, ◌<◌}
+use Prim.Native.Nat.{◌+◌, ◌<◌}
 use lib.ListN.{length}
 use native.Mathlib.Omega.{arith}
-use Rattle.window.specs.Store.{Filled}
 use Rattle.window.proofs.Store.{filled_none, filled_more}
-use Rattle.kernel_curve.specs.Code.{byte_of}
 use borrow.Author.Rules.{rules}
 use Rattle.kernel_curve.proofs.fill_bytes.Goals as goal
 

@@ -1,13 +1,10 @@
 -- `kernel_curve::fill_entries` meets its contract: one store more in each turn. Assumes nothing.
-use mathlib.Core.Path.{◌≡◌, ◌∙◌, ap}
-use Prim.Native.Nat.{ℕ, ◌+◌, ◌-◌, ◌≤◌, ◌<◌}
+use mathlib.Core.Path.{◌∙◌, ap}
+use Prim.Native.Nat.{◌<◌}
 use lib.ListN.{length}
 use native.Mathlib.Omega.{arith}
 use Rattle.number.specs.declared.Fixed.{Fixed}
-use Rattle.window.specs.Store.{Filled}
 use Rattle.window.proofs.Store.{filled_none, filled_more}
-use Rattle.kernel_curve.specs.Channel.{value_at}
-use borrow.Author.Rules.{rules}
 use Rattle.kernel_curve.proofs.fill_entries.Goals as goal
 
 pub loop-k-init : goal.loop-k-init

@@ -3,7 +3,6 @@ use Rattle.kernel_curve.proofs.Channels.{allowed_at, entries-small, map-filled}
 use Prim.Native.Nat.{◌+◌}
 use mathlib.Core.Path.{◌≡◌}
 use lib.ListN.{length}
-use borrow.Author.Rules.{rules}
 use Rattle.kernel_curve.proofs.fill_map.Goals as goal
 
 pub fill_bytes-requires : goal.fill_bytes-requires

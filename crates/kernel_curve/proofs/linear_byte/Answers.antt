@@ -2,7 +2,6 @@
 use mathlib.Core.Path.{◌∙◌, ap, ap₂}
 use Prim.Native.Nat.{ℕ, ◌+◌, ◌-◌, ◌/◌, min}
 use Rattle.kernel_curve.proofs.Channels.{linear-natural}
-use borrow.Author.Rules.{rules}
 use Rattle.kernel_curve.proofs.linear_byte.Goals as goal
 
 pub returns : goal.returns

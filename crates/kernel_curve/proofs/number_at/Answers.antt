@@ -1,9 +1,8 @@
 -- `kernel_curve::number_at` meets its contract: the value, or none behind the last. Assumes nothing.
-use mathlib.Core.Path.{◌≡◌, sym}
+use mathlib.Core.Path.{sym}
 use Prim.Native.Nat.{◌≤◌}
 use lib.ListN.{length, get_or-eq_default}
 use native.Mathlib.Omega.{arith}
-use borrow.Author.Rules.{rules}
 use Rattle.kernel_curve.proofs.number_at.Goals as goal
 
 pub returns : goal.returns

@@ -1,10 +1,9 @@
 -- `kernel_curve::table_byte` meets its contract: between two entries by the rest of the division. Assumes nothing.
-use mathlib.Core.Path.{◌≡◌, ◌∙◌, ap, ap₂}
+use mathlib.Core.Path.{◌∙◌, ap, ap₂}
 use Prim.Native.Nat.{ℕ, ◌+◌, ◌-◌, ◌*◌, ◌/◌, ◌%◌, ◌≤◌, min}
 use lib.ListN.{get_or}
 use native.Mathlib.Omega.{arith}
 use Rattle.pixel.specs.Curve.{table_channel}
-use borrow.Author.Rules.{rules}
 use Rattle.kernel_curve.proofs.table_byte.Goals as goal
 
 pub scaled-requires : goal.scaled-requires

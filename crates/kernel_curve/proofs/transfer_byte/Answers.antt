@@ -1,9 +1,7 @@
 -- `kernel_curve::transfer_byte` meets its contract, kind by kind. Assumes nothing.
-use mathlib.Core.Path.{◌∙◌}
 use native.Mathlib.Omega.{arith}
 use Rattle.kernel_curve.specs.Channel.{Counted}
 use Rattle.kernel_curve.specs.Code.{byte_of}
-use borrow.Author.Rules.{rules}
 use Rattle.kernel_curve.proofs.transfer_byte.Goals as goal
 
 pub overflow_sub-n : goal.overflow_sub-n

@@ -2,7 +2,6 @@
 use Prim.Native.Nat.{ℕ, ◌+◌, ◌*◌}
 use mathlib.Core.Path.{refl}
 use native.Mathlib.Omega.{arith}
-use borrow.Author.Rules.{rules}
 use Rattle.window.specs.Limits.{longest_side}
 use Rattle.kernel_lines.proofs.ExtendedRows.{painted-from}
 use Rattle.kernel_lines.proofs.clear_line.Goals as goal

@@ -2,7 +2,6 @@
 use Prim.Native.Nat.{ℕ, ◌+◌, ◌*◌}
 use mathlib.Core.Path.{◌≡◌}
 use native.Mathlib.Omega.{arith}
-use borrow.Author.Rules.{rules}
 use Rattle.window.specs.Limits.{longest_side}
 use Rattle.pixel.specs.Convolve.{extended}
 use Rattle.pixel.proofs.PaintedRows.{painted-join}

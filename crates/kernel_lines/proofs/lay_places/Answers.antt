@@ -1,10 +1,6 @@
 -- `kernel_lines::lay_places` meets its contract: each turn paints one more place. Assumes nothing.
-use Prim.Native.Nat.{◌-◌, ◌*◌, ◌≤◌}
 use mathlib.Core.Path.{◌≡◌, sym, ap, ◌∙◌}
 use native.Mathlib.Omega.{arith}
-use borrow.Author.Rules.{rules}
-use Rattle.pixel.specs.Bytes.{Painted}
-use Rattle.pixel.specs.Convolve.{extended}
 use Rattle.pixel.proofs.PaintedRows.{painted-none, painted-more}
 use Rattle.kernel_lines.specs.Lines.{pixel_in}
 use Rattle.kernel_lines.proofs.ExtendedRows.{pixel-behind, extended-place}

@@ -1,12 +1,7 @@
-use Prim.Native.Nat.{◌-◌, ◌*◌, ◌≤◌}
-use mathlib.Core.Path.{◌≡◌, sym, ap, ◌∙◌}
-use native.Mathlib.Omega.{arith}
-use borrow.Author.Rules.{rules}
+use Prim.Native.Nat.{◌*◌, ◌≤◌}
 use Rattle.pixel.specs.Bytes.{Painted}
 use Rattle.pixel.specs.Convolve.{extended}
-use Rattle.pixel.proofs.PaintedRows.{painted-none, painted-more}
 use Rattle.kernel_lines.specs.Lines.{pixel_in}
-use Rattle.kernel_lines.proofs.ExtendedRows.{pixel-behind, extended-place}
 use Rattle.kernel_lines.proofs.lay_places.Given as goal
 
 abbrev pub invariant-loop-x : goal.invariant-loop-x

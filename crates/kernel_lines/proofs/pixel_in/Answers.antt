@@ -1,5 +1,4 @@
 -- `kernel_lines::pixel_in` meets its contract: a pixel of the row, or the word of transparent black. Assumes nothing.
-use borrow.Author.Rules.{rules}
 use mathlib.Core.Path.{refl}
 use borrow.Author.Tests.{lt-ltb, le-ltb}
 use Rattle.kernel_lines.proofs.pixel_in.Goals as goal

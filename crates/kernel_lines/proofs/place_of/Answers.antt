@@ -1,7 +1,6 @@
 -- `kernel_lines::place_of` meets its contract: the place of each mode. Assumes nothing.
 use native.Mathlib.Nat.{mul-le-mul, sub-le}
 use native.Mathlib.Omega.{arith}
-use borrow.Author.Rules.{rules}
 use Rattle.kernel_lines.proofs.place_of.Goals as goal
 
 pub overflow_mul-result : goal.overflow_mul-result

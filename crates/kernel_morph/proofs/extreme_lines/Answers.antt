@@ -1,7 +1,6 @@
 -- `kernel_morph::extreme_lines` meets its contract: no window needs to be longer than the lines, and the edges come last. Assumes nothing.
 use mathlib.Core.Logic.{⊎_elim}
 use native.Mathlib.Omega.{arith}
-use borrow.Author.Rules.{rules}
 use Rattle.kernel_morph.proofs.PingPongGrowth.{pingpong-edged}
 use Rattle.kernel_morph.proofs.extreme_lines.Goals as goal
 

@@ -1,9 +1,7 @@
 -- `kernel_remap::convert_row` meets its contract: one pixel more in each turn; the pixel read is still the old one. Assumes nothing.
 use mathlib.Core.Path.{◌≡◌, ◌∙◌, ap}
-use Prim.Native.Nat.{◌+◌, ◌-◌, ◌*◌, ◌≤◌}
+use Prim.Native.Nat.{◌+◌, ◌*◌}
 use native.Mathlib.Omega.{arith}
-use borrow.Author.Rules.{rules}
-use Rattle.pixel.specs.Bytes.{pixel_at, Painted}
 use Rattle.pixel.specs.Remap.{remapped}
 use Rattle.pixel.specs.Space.{space_maps}
 use Rattle.pixel.proofs.PaintedRows.{pixel-same, painted-none, painted-more}

@@ -1,11 +1,7 @@
-use mathlib.Core.Path.{◌≡◌, ◌∙◌, ap}
-use Prim.Native.Nat.{◌+◌, ◌-◌, ◌*◌, ◌≤◌}
-use native.Mathlib.Omega.{arith}
-use borrow.Author.Rules.{rules}
+use Prim.Native.Nat.{◌*◌, ◌≤◌}
 use Rattle.pixel.specs.Bytes.{pixel_at, Painted}
 use Rattle.pixel.specs.Remap.{remapped}
 use Rattle.pixel.specs.Space.{space_maps}
-use Rattle.pixel.proofs.PaintedRows.{pixel-same, painted-none, painted-more}
 use Rattle.kernel_remap.proofs.convert_row.Given as goal
 
 abbrev pub invariant-loop-x : goal.invariant-loop-x

@@ -1,5 +1,4 @@
 -- `kernel_remap::convert_word` meets its contract: the three colours looked up, the alpha as it is. Assumes nothing.
-use borrow.Author.Rules.{rules}
 use Rattle.pixel.specs.Remap.{remapped}
 use Rattle.kernel_remap.proofs.convert_word.Goals as goal
 

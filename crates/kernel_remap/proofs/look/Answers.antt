@@ -1,5 +1,4 @@
 -- `kernel_remap::look` meets its contract: the table has its entry for two bytes. Assumes nothing.
-use borrow.Author.Rules.{rules}
 use Rattle.kernel_remap.proofs.look.Goals as goal
 
 pub returns : goal.returns

@@ -3,7 +3,6 @@ use Prim.Native.Nat.{◌*◌, ◌≤◌}
 use mathlib.Core.Path.{refl, sym}
 use native.Mathlib.Omega.{arith}
 use borrow.Author.Tests.{not-false}
-use borrow.Author.Rules.{rules}
 use Rattle.kernel_taps.specs.Taps.{Prepares}
 use Rattle.kernel_taps.proofs.WholeTaps.{never}
 use Rattle.kernel_taps.proofs.SmallKernels.{filled-lane}

@@ -1,5 +1,4 @@
 -- `lent::blanks` meets its contract: the blank step at every place. Assumes nothing.
-use borrow.Author.Rules.{rules}
 use Rattle.lent.proofs.blanks.Goals as goal
 
 pub returns : goal.returns

@@ -4,7 +4,6 @@ use native.Mathlib.Nat.{one-mul, mod-eq_of_lt}
 use native.Mathlib.Omega.{arith}
 use lib.Pow.{pow-lt}
 use borrow.Author.Tests.{lt-ltb, le-ltb}
-use borrow.Author.Rules.{rules}
 use Rattle.number.proofs.denominator.Goals as goal
 
 pub returns-then-k-lt107 : goal.returns-then-k-lt107

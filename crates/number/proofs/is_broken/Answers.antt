@@ -1,6 +1,5 @@
 -- `number::is_broken` meets its contract: the test on the way is that of the answer. Assumes nothing.
 use mathlib.Core.Path.{◌∙◌, sym}
-use borrow.Author.Rules.{rules}
 use Rattle.number.proofs.is_broken.Goals as goal
 
 pub returns-then-must_be_whole : goal.returns-then-must_be_whole

@@ -1,6 +1,5 @@
 -- `number::is_negative` meets its contract: the tests on the way are those of the answer. Assumes nothing.
 use mathlib.Core.Path.{◌∙◌, sym}
-use borrow.Author.Rules.{rules}
 use Rattle.number.proofs.is_negative.Goals as goal
 
 pub returns-then-below : goal.returns-then-below

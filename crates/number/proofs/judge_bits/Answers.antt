@@ -2,7 +2,6 @@
 use Prim.Native.Nat.{◌-◌, ◌/◌, ◌%◌}
 use mathlib.Core.Path.{◌∙◌}
 use Rattle.number.proofs.Singles.{bits-top, bits-zero, bits-suc, den_pos, den-le}
-use borrow.Author.Rules.{rules}
 use Rattle.number.proofs.judge_bits.Goals as goal
 
 pub returns-then-exponent-eq255 : goal.returns-then-exponent-eq255

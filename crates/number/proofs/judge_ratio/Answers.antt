@@ -4,7 +4,6 @@ use mathlib.Core.Path.{◌∙◌, sym}
 use native.Mathlib.Nat.{mul-le-mul, mul-le-mul_right, le_trans}
 use native.Mathlib.Omega.{arith}
 use borrow.Author.Tests.{lt-ltb, le-ltb}
-use borrow.Author.Rules.{rules}
 use Rattle.number.specs.Number.{judged_ratio}
 use Rattle.number.proofs.Ratio.{limit-le}
 use Rattle.number.proofs.judge_ratio.Goals as goal

@@ -11,7 +11,6 @@ use mir.Syntax.{w64}
 use mir.Val.{SFits, Fits, of_z}
 use mir.ValLaws.{to_z-of_z}
 use borrow.Author.Tests.{ltb-true}
-use borrow.Author.Rules.{rules}
 use Rattle.number.proofs.magnitude.Goals as goal
 
 least : (z : ℤ) → SFits w64 z → lt_z z (pos 0) ≡ true → of_z w64 z ≡ 9223372036854775808 → 9223372036854775808 ≡ nat_abs z

@@ -3,7 +3,6 @@ use Prim.Native.Nat.{ℕ, ◌+◌, ◌*◌, ◌/◌, ◌%◌, ◌<◌, ◌≤◌
 use mathlib.Core.Path.{◌∙◌, ap}
 use native.Mathlib.Nat.{mod-lt, div-le_of_le-mul, mul_comm, div-le_self, lt_of_le_of_lt, le_trans, add-le-add, mul-le-mul_right}
 use native.Mathlib.Omega.{arith}
-use borrow.Author.Rules.{rules}
 use Rattle.number.proofs.Fraction.{nearest-split}
 use Rattle.number.proofs.nearest_units.Goals as goal
 

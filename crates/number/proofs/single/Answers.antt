@@ -6,7 +6,6 @@ use mathlib.Core.Bool.{true}
 use lib.Ieee.{Float, nan, inf, fin, binary32, of_bits, is_nan, div}
 use lib.Ieee.Bits.{nan_bits_is, nan_bits_above}
 use borrow.Author.Tests.{lt-ltb, le-ltb}
-use borrow.Author.Rules.{rules}
 use Rattle.number.proofs.single.Goals as goal
 
 is-nan : (x : Float) → is_nan x ≡ true → x ≡ nan

@@ -1,7 +1,6 @@
 -- `number::to_even` meets its contract, by its two tests. Assumes nothing.
 use mathlib.Core.Path.{sym}
 use native.Mathlib.Omega.{arith}
-use borrow.Author.Rules.{rules}
 use Rattle.number.proofs.Fraction.{evened-rest, evened-even, evened-odd}
 use Rattle.number.proofs.to_even.Goals as goal
 

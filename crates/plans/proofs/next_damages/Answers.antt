@@ -1,18 +1,14 @@
 -- `plans::next_damages` meets its contract: an accepted step has its rectangle. Assumes nothing.
-use mathlib.Core.Path.{◌≡◌, sym, ap, ◌∙◌}
-use Prim.Native.Nat.{ℕ, ◌+◌, ◌*◌}
+use mathlib.Core.Path.{sym, ap, ◌∙◌}
 use native.Mathlib.Omega.{arith}
 use lib.ListN.{length, length-set}
-use borrow.Author.Tests.{not-false}
 use Rattle.filter.specs.declared.Input.TheVariants.{Source}
-use Rattle.filter.specs.declared.Rect.{Rect}
 use Rattle.filter.specs.Limits.{longest_side}
 use Rattle.filter.specs.Answers.{accepted?}
-use Rattle.damage.specs.InputRects.{rect_of, AllWithin}
+use Rattle.damage.specs.InputRects.{rect_of}
 use Rattle.checks.proofs.Acceptance.{accepted-step}
 use Rattle.damage.proofs.DamagesSoFar.{within_more}
 use Rattle.plans.proofs.Rects.{more_within}
-use borrow.Author.Rules.{rules}
 use Rattle.plans.proofs.next_damages.Goals as goal
 
 pub returns-then-not-is_accepted : goal.returns-then-not-is_accepted
@@ -21,13 +17,13 @@ returns-then-not-is_accepted c = (omega (arith, c.requires.n_lt_most_steps.3), c
 pub bounds-region-requires : goal.bounds-region-requires
 bounds-region-requires c =
     let a = c.args in
-    let A = accepted-step a.w a.h a.n a.step (ap accepted? (sym c.check_step.ensures) ∙ sym c.is_accepted.ensures ∙ not-false _ c.if-not-is_accepted.false) in
+    let A = accepted-step a.w a.h a.n a.step (ap accepted? (sym c.check_step.ensures) ∙ sym c.is_accepted.ensures ∙ c.if-not-is_accepted.false) in
     (omega (arith, A.region.right, c.requires.n_lt_most_steps.1), omega (arith, A.region.bottom, c.requires.n_lt_most_steps.2))
 
 pub damage_of-rect-requires : goal.damage_of-rect-requires
 damage_of-rect-requires c =
     let a = c.args in
-    let A = accepted-step a.w a.h a.n a.step (ap accepted? (sym c.check_step.ensures) ∙ sym c.is_accepted.ensures ∙ not-false _ c.if-not-is_accepted.false) in
+    let A = accepted-step a.w a.h a.n a.step (ap accepted? (sym c.check_step.ensures) ∙ sym c.is_accepted.ensures ∙ c.if-not-is_accepted.false) in
     (rw c.resolve-made.ensures A.numbers.shape, c.requires.rects_len.1, c.requires.n_lt_most_steps.1, c.requires.n_lt_most_steps.2)
 
 pub with_rect-requires : goal.with_rect-requires

@@ -2,7 +2,6 @@
 use mathlib.Core.Path.{◌≡◌, sym, ap, ◌∙◌}
 use mathlib.Core.Bool.{true}
 use native.Mathlib.Omega.{arith}
-use borrow.Author.Rules.{rules}
 use Rattle.filter.specs.Answers.{accepted?}
 use Rattle.filter.specs.Checks.{or_else}
 use Rattle.filter.proofs.PassedChecks.{else-accepted}
@@ -10,7 +9,7 @@ use Rattle.checks.proofs.Acceptance.{accepted-sizes, accepted-rectangle}
 use Rattle.plans.proofs.print_plan.Goals as goal
 
 pub bounds-requires : goal.bounds-requires
-bounds-requires c =
+bounds-requires g c =
     let a = c.check_canvas-a in
     let b = c.check_rectangle-b in
     let all : accepted? (or_else a.result b.result) ≡ true = sym (ap accepted? c.first-early.ensures) ∙ sym c.is_accepted.ensures ∙ c.if-is_accepted.true in
@@ -18,7 +17,7 @@ bounds-requires c =
     (omega (arith, g.right, c.requires.0), omega (arith, g.bottom, c.requires.1))
 
 pub print_steps-requires : goal.print_steps-requires
-print_steps-requires c =
+print_steps-requires g c =
     let a = c.check_canvas-a in
     let b = c.check_rectangle-b in
     let all : accepted? (or_else a.result b.result) ≡ true = sym (ap accepted? c.first-early.ensures) ∙ sym c.is_accepted.ensures ∙ c.if-is_accepted.true in

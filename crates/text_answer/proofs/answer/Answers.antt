@@ -2,7 +2,6 @@
 use mathlib.Core.Path.{refl, sym}
 use native.Mathlib.Omega.{arith}
 use lib.Seq.{length-take-le}
-use borrow.Author.Rules.{rules}
 use Rattle.text.specs.declared.Form.TheVariants as F
 use Rattle.filter.specs.Limits.{most_steps}
 use Rattle.text.proofs.ReadingBounded.{reading-bounded}
@@ -28,10 +27,10 @@ pub returns-then-n-out : goal.returns-then-n-out
 returns-then-n-out c =
     let e = c.scan.ensures in
     let p = c.print_reading-n.ensures in
-    (printed-length _ e p, (omega (arith, put-fits p), printed-stored _ e p c.args.out.now c.if-n-out.true c.put_word.ensures))
+    record { long = printed-length _ e p; enough = omega (arith, put-fits p); printed = printed-stored _ e p c.args.out.now c.if-n-out.true c.put_word.ensures }
 
 pub returns-else-n-out : goal.returns-else-n-out
 returns-else-n-out c =
     let e = c.scan.ensures in
     let p = c.print_reading-n.ensures in
-    (printed-length _ e p, (omega (arith, put-fits p), printed-kept _ e p _ c.if-n-out.false))
+    record { long = printed-length _ e p; enough = omega (arith, put-fits p); printed = printed-kept _ e p _ c.if-n-out.false }

@@ -1,10 +1,9 @@
 -- `text_answer::draw` meets its contract. The scratch part is as long as the rules ask. Assumes nothing.
-use mathlib.Core.Path.{◌≡◌, sym, ap, ◌∙◌}
+use mathlib.Core.Path.{sym, ap, ◌∙◌}
 use mathlib.Core.List.{List}
 use Prim.Native.Nat.{ℕ, ◌*◌}
 use native.Mathlib.Omega.{arith}
 use lib.ListN.{replicate}
-use borrow.Author.Rules.{rules}
 use Rattle.filter.specs.declared.Call.TheVariants as C
 use Rattle.filter.specs.Limits.{text_picture}
 use Rattle.text.specs.declared.Form.TheVariants as F
@@ -26,4 +25,4 @@ returns c =
     let p = c.picture_size-n in
     let r = size-le a.width a.height p.ensures.0 c.requires.0 c.requires.1 in
     let z = take-zeros (2 * p.result) (2 * text_picture) (omega arith) ∙ ap (λ (n : ℕ). replicate {A = ℕ} (2 * n) 0) p.ensures.0 in
-    record { value = c.draw_lines-drawn.ensures.answers.0 ∙ ap (λ (l : List ℕ). answer_in (giving_text F.Sheet a.text.now C.Render a.width a.height a.source.now a.workspace.now l)) z; workspace_after = c.draw_lines-drawn.ensures.answers.1.1.0 }
+    record { value = c.draw_lines-drawn.ensures.answers ∙ ap (λ (l : List ℕ). answer_in (giving_text F.Sheet a.text.now C.Render a.width a.height a.source.now a.workspace.now l)) z; workspace_after = c.draw_lines-drawn.ensures.layers }

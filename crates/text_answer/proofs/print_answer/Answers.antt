@@ -24,4 +24,4 @@ put_refused-requires c = refused-room _ _ _ (search rules) (search rules) c.requ
 
 pub returns : goal.returns
 returns c =
-    put_as c.Put-refused.ensures _ (answer-refused _ _ _ _ _ _ (sym c.is_accepted.ensures ∙ c.if-is_accepted.false) c.number.ensures c.place.ensures)
+    put_as c.put_refused.ensures _ (answer-refused _ _ _ _ _ _ (sym c.is_accepted.ensures ∙ c.if-is_accepted.false) c.number.ensures c.place.ensures)

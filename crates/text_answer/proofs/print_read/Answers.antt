@@ -1,11 +1,9 @@
 -- `text_answer::print_read` meets its contract. Assumes nothing.
-use mathlib.Core.Path.{sym, ap, ◌∙◌}
-use mathlib.Core.List.{List}
+use mathlib.Core.Path.{sym, ap}
 use Prim.Native.Nat.{ℕ}
 use native.Mathlib.Omega.{arith}
 use lib.ListN.{take}
 use lib.Seq.{length-take-le}
-use borrow.Author.Rules.{rules}
 use Rattle.text.specs.declared.Reading.{Reading}
 use Rattle.text_print.proofs.PutTexts.{put_as}
 use Rattle.text_answer.specs.Answer.{sheet_text}

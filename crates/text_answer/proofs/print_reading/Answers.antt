@@ -1,6 +1,4 @@
 -- `text_answer::print_reading` meets its contract. Assumes nothing.
-use mathlib.Core.Path.{sym}
-use native.Mathlib.Omega.{arith}
 use borrow.Author.Rules.{rules}
 use Rattle.text_print.proofs.PutTexts.{put_as}
 use Rattle.text_answer.proofs.BuffersSuffice.{refused-room}
@@ -17,7 +15,7 @@ pub returns-in-Done : goal.returns-in-Done
 returns-in-Done c = put_as c.print_read.ensures _ (reading-done _ _ _ (search rules))
 
 pub returns-in-Line : goal.returns-in-Line
-returns-in-Line c = put_as c.Put-refused.ensures _ (reading-line _ _ _ _ (search rules))
+returns-in-Line c = put_as c.put_refused.ensures _ (reading-line _ _ _ _ (search rules))
 
 pub returns-in-Records : goal.returns-in-Records
 returns-in-Records c = put_as c.put_refused-in-Records.ensures _ (reading-records _ _ _ (search rules))

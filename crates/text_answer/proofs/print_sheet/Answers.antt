@@ -3,7 +3,6 @@ use mathlib.Core.Path.{sym, ap, ◌∙◌}
 use Prim.Native.Nat.{ℕ, ◌*◌, ◌≤◌}
 use native.Mathlib.Omega.{arith}
 use lib.ListN.{replicate}
-use borrow.Author.Rules.{rules}
 use Rattle.filter.specs.Limits.{most_steps, text_picture}
 use Rattle.text_answer.proofs.BuffersSuffice.{size-le, layers-le, zeros-long, take-zeros}
 use Rattle.text_answer.proofs.print_sheet.Goals as goal

@@ -2,7 +2,6 @@
 use Rattle.window.specs.Window.{spread}
 use borrow.Author.Tests.{eq-eqb, ne_eqb}
 use native.Mathlib.Omega.{arith}
-use borrow.Author.Rules.{rules}
 use Rattle.window.proofs.spread_of.Goals as goal
 
 pub returns-then-d-eq1 : goal.returns-then-d-eq1

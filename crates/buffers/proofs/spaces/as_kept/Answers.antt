@@ -1,5 +1,4 @@
 -- `buffers::spaces::as_kept` meets its contract. Assumes nothing.
-use borrow.Author.Rules.{rules}
 use Rattle.buffers.proofs.spaces.as_kept.Goals as goal
 
 pub returns : goal.returns

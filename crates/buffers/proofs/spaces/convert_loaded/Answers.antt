@@ -1,5 +1,4 @@
 -- `buffers::spaces::convert_loaded` meets its contract: a table that is not empty is that of the space. Assumes nothing.
-use borrow.Author.Rules.{rules}
 use Rattle.buffers.proofs.spaces.convert_loaded.Goals as goal
 
 pub convert_row-requires : goal.convert_row-requires

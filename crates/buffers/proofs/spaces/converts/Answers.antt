@@ -2,7 +2,6 @@
 use Rattle.filter.specs.Limits.{most_steps}
 use Rattle.buffers.specs.Seen.{converts?}
 use Rattle.buffers.proofs.RowStarts.{allowed-below}
-use borrow.Author.Rules.{rules}
 use Rattle.buffers.proofs.spaces.converts.Goals as goal
 
 pub layer_space-kept-requires : goal.layer_space-kept-requires

@@ -2,7 +2,6 @@
 use Rattle.filter.specs.Limits.{most_steps}
 use Rattle.buffers.specs.Shown.{spaces_by}
 use Rattle.buffers.proofs.RowStarts.{allowed-below}
-use borrow.Author.Rules.{rules}
 use Rattle.buffers.proofs.spaces.kept_space.Goals as goal
 
 pub layer_space-requires : goal.layer_space-requires

@@ -3,7 +3,6 @@ use mathlib.Core.Path.{sym, ap}
 use mathlib.Core.Bool.{Bool, cond}
 use Rattle.pixel.specs.declared.Space.TheVariants.{Srgb, Linear}
 use Rattle.buffers.specs.Shown.{spaces_by}
-use borrow.Author.Rules.{rules}
 use Rattle.buffers.proofs.spaces.layer_space.Goals as goal
 
 pub returns-then-context-k : goal.returns-then-context-k

@@ -2,7 +2,6 @@
 use mathlib.Core.Path.{ap}
 use mathlib.Core.Bool.{not}
 use Rattle.buffers.specs.Seen.{lies?}
-use borrow.Author.Rules.{rules}
 use Rattle.buffers.proofs.spaces.lies.Goals as goal
 
 pub returns-in-Source : goal.returns-in-Source

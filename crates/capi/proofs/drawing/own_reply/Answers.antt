@@ -1,6 +1,5 @@
 -- `capi::drawing::own_reply` meets its contract. Assumes nothing.
 use Rattle.capi.proofs.Replies.{own_is}
-use borrow.Author.Rules.{rules}
 use Rattle.capi.proofs.drawing.own_reply.Goals as goal
 
 pub returns : goal.returns

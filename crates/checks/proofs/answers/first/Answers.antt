@@ -1,6 +1,5 @@
 -- `checks::answers::first` meets its contract: a refusal stays. Assumes nothing.
 use mathlib.Core.Path.{sym, ◌∙◌}
-use borrow.Author.Rules.{rules}
 use Rattle.checks.proofs.answers.first.Goals as goal
 
 pub returns-then-is_accepted : goal.returns-then-is_accepted

@@ -3,7 +3,6 @@ use Rattle.checks.proofs.AnswerLaws.{accepted-zero}
 use Prim.Native.Nat.{ℕ}
 use lib.Dec.{eqb}
 use mathlib.Core.Path.{◌∙◌, ap}
-use borrow.Author.Rules.{rules}
 use Rattle.checks.proofs.answers.is_accepted.Goals as goal
 
 pub returns : goal.returns

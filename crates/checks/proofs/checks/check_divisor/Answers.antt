@@ -1,9 +1,5 @@
 -- `checks::checks::check_divisor` meets its contract. Assumes nothing.
 use mathlib.Core.Path.{sym, ◌∙◌}
-use borrow.Author.Rules.{rules}
-use Rattle.checks.proofs.checks.check_divisor.Reads as reads
-use Rattle.checks.proofs.checks.check_divisor.Lts as lts
-use Rattle.checks.proofs.checks.divides.Reads as divides-reads
 use Rattle.checks.proofs.checks.check_divisor.Goals as goal
 
 pub returns-then-divides : goal.returns-then-divides

@@ -1,5 +1,4 @@
 -- `checks::checks::check_next` meets its contract: a refusal stays. Assumes nothing.
-use borrow.Author.Rules.{rules}
 use Rattle.filter.proofs.TypeFacts.{step-bytes}
 use Rattle.checks.proofs.checks.check_next.Goals as goal
 

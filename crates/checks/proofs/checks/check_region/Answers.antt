@@ -1,6 +1,5 @@
 -- `checks::checks::check_region` meets its contract, by its test. Assumes nothing.
 use mathlib.Core.Path.{sym, ◌∙◌}
-use borrow.Author.Rules.{rules}
 use Rattle.checks.proofs.checks.check_region.Goals as goal
 
 pub returns-then-on_canvas : goal.returns-then-on_canvas

@@ -1,38 +1,27 @@
 -- `checks::checks::check_step` meets its contract. Assumes nothing.
 use Rattle.checks.proofs.AnswerLaws.{step-refused, step-oversized, step-unfit, step_is}
-use borrow.Author.Tests.{not-true, not-false}
 use mathlib.Core.Path.{sym, ◌∙◌}
-use borrow.Author.Rules.{rules}
-use Rattle.checks.proofs.checks.check_step.Reads as reads
-use Rattle.checks.proofs.checks.check_step.Lts as lts
-use Rattle.checks.proofs.answers.first.Reads as first_reads
-use Rattle.checks.proofs.checks.check_divisor.Reads as check-divisor-reads
-use Rattle.checks.proofs.checks.check_numbers.Reads as check-numbers-reads
-use Rattle.checks.proofs.checks.check_region.Reads as check-region-reads
-use Rattle.checks.proofs.checks.inputs_allowed.Reads as inputs-allowed-reads
-use Rattle.checks.proofs.checks.kernel_allowed.Reads as kernel-allowed-reads
-use Rattle.checks.proofs.checks.tables_allowed.Reads as tables-allowed-reads
 use Rattle.checks.proofs.checks.check_step.Goals as goal
 
 pub returns-then-not-inputs_allowed : goal.returns-then-not-inputs_allowed
-returns-then-not-inputs_allowed c = step-refused _ _ _ _ (sym c.inputs_allowed.ensures ∙ not-true _ c.if-not-inputs_allowed.true)
+returns-then-not-inputs_allowed c = step-refused _ _ _ _ (sym c.inputs_allowed.ensures ∙ c.if-not-inputs_allowed.true)
 
 pub returns-then-not-tables_allowed : goal.returns-then-not-tables_allowed
 returns-then-not-tables_allowed c =
-    step-oversized _ _ _ _ (sym c.inputs_allowed.ensures ∙ not-false _ c.if-not-inputs_allowed.false)
-    (sym c.tables_allowed.ensures ∙ not-true _ c.if-not-tables_allowed.true)
+    step-oversized _ _ _ _ (sym c.inputs_allowed.ensures ∙ c.if-not-inputs_allowed.false)
+    (sym c.tables_allowed.ensures ∙ c.if-not-tables_allowed.true)
 
 pub returns-then-not-kernel_allowed : goal.returns-then-not-kernel_allowed
 returns-then-not-kernel_allowed c =
-    step-unfit _ _ _ _ (sym c.inputs_allowed.ensures ∙ not-false _ c.if-not-inputs_allowed.false)
-    (sym c.tables_allowed.ensures ∙ not-false _ c.if-not-tables_allowed.false)
-    (sym c.kernel_allowed.ensures ∙ not-true _ c.if-not-kernel_allowed.true)
+    step-unfit _ _ _ _ (sym c.inputs_allowed.ensures ∙ c.if-not-inputs_allowed.false)
+    (sym c.tables_allowed.ensures ∙ c.if-not-tables_allowed.false)
+    (sym c.kernel_allowed.ensures ∙ c.if-not-kernel_allowed.true)
 
 pub returns : goal.returns
 returns c =
-    step_is _ _ _ _ _ (sym c.inputs_allowed.ensures ∙ not-false _ c.if-not-inputs_allowed.false)
-    (sym c.tables_allowed.ensures ∙ not-false _ c.if-not-tables_allowed.false)
-    (sym c.kernel_allowed.ensures ∙ not-false _ c.if-not-kernel_allowed.false)
+    step_is _ _ _ _ _ (sym c.inputs_allowed.ensures ∙ c.if-not-inputs_allowed.false)
+    (sym c.tables_allowed.ensures ∙ c.if-not-tables_allowed.false)
+    (sym c.kernel_allowed.ensures ∙ c.if-not-kernel_allowed.false)
     (rw (
       c.first-2.ensures,
       c.first.ensures,

@@ -1,15 +1,6 @@
 -- `checks::checks::divides` meets its contract. Assumes nothing.
 use native.Mathlib.Omega.{arith}
 use Rattle.checks.proofs.AnswerLaws.{divides-is, undivided}
-use borrow.Author.Rules.{rules}
-use Rattle.checks.proofs.checks.divides.Reads as reads
-use Rattle.checks.proofs.checks.divides.Lts as lts
-use Rattle.checks.proofs.checks.is_zero.Reads as is-zero-reads
-use Rattle.filter.proofs.kinds.number_count.Reads as number-count-reads
-use Rattle.filter.proofs.kinds.range_in.Reads as range-in-reads
-use Rattle.filter.proofs.kinds.signature_of.Reads as signature-of-reads
-use Rattle.filter.proofs.steps.number_at.Reads as number-at-reads
-use Rattle.number.proofs.judge.Reads as judge-reads
 use Rattle.checks.proofs.checks.divides.Goals as goal
 
 pub returns-then-i-number_count : goal.returns-then-i-number_count

@@ -1,5 +1,4 @@
 -- `checks::checks::fault_answer` meets its contract, fault by fault. Assumes nothing.
-use borrow.Author.Rules.{rules}
 use Rattle.checks.proofs.checks.fault_answer.Goals as goal
 
 pub returns-in-NotFinite : goal.returns-in-NotFinite

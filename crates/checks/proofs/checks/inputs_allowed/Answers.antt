@@ -3,15 +3,12 @@ use Rattle.checks.proofs.AnswerLaws.{all_more, inputs-few, inputs-refused, input
 use Rattle.filter.specs.Checks.{all, allowed?}
 use Rattle.filter.specs.Steps.{input_at}
 use Rattle.filter.specs.declared.Signature.{Signature}
-use borrow.Author.Tests.{not-true, not-false}
 use mathlib.Core.Path.{◌≡◌, refl, sym, ap, ◌∙◌}
-use Prim.Native.Nat.{◌≤◌, ◌-◌}
 use native.Mathlib.Omega.{arith}
-use borrow.Author.Rules.{rules}
 use Rattle.checks.proofs.checks.inputs_allowed.Goals as goal
 
 pub returns-then-not-merges : goal.returns-then-not-merges
-returns-then-not-merges c = inputs-refused _ _ (rw c.signature_of-signature.ensures at (sym c.merges.ensures ∙ not-true _ c.if-not-merges.true))
+returns-then-not-merges c = inputs-refused _ _ (rw c.signature_of-signature.ensures at (sym c.merges.ensures ∙ c.if-not-merges.true))
 
 pub loop-i-init : goal.loop-i-init
 unfolding all
@@ -19,7 +16,7 @@ loop-i-init c = (omega arith, refl)
 
 pub input_at-requires : goal.input_at-requires
 input_at-requires c =
-    omega (arith, inputs-few c.signature_of-signature.result (sym c.merges.ensures ∙ not-false _ c.if-not-merges.false), c.loop-i-test.true)
+    omega (arith, inputs-few c.signature_of-signature.result (sym c.merges.ensures ∙ c.if-not-merges.false), c.loop-i-test.true)
 
 pub loop-i-preserved : goal.loop-i-preserved
 loop-i-preserved c =
@@ -30,5 +27,5 @@ returns c =
     let s = c.args in
     let g = c.signature_of-signature in
     let e : c.loop-i.i ≡ g.result.inputs = omega arith in
-    inputs_are _ _ _ (rw g.ensures at (sym c.merges.ensures ∙ not-false _ c.if-not-merges.false))
+    inputs_are _ _ _ (rw g.ensures at (sym c.merges.ensures ∙ c.if-not-merges.false))
     (c.loop-i.invariant.1 ∙ ap (all (λ i. allowed? s.n (input_at s.step i))) (e ∙ ap (λ (x : Signature). x.inputs) g.ensures))

@@ -1,5 +1,4 @@
 -- `checks::checks::is_allowed` meets its contract, input by input. Assumes nothing.
-use borrow.Author.Rules.{rules}
 use Rattle.checks.proofs.checks.is_allowed.Goals as goal
 
 pub returns-in-Layer : goal.returns-in-Layer

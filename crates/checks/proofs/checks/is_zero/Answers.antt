@@ -1,7 +1,4 @@
 -- `checks::checks::is_zero` meets its contract. Assumes nothing.
-use borrow.Author.Rules.{rules}
-use Rattle.checks.proofs.checks.is_zero.Reads as reads
-use Rattle.checks.proofs.checks.is_zero.Lts as lts
 use Rattle.checks.proofs.checks.is_zero.Goals as goal
 
 pub returns-in-Accepted : goal.returns-in-Accepted

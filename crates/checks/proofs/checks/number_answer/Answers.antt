@@ -1,5 +1,4 @@
 -- `checks::checks::number_answer` meets its contract: a refused number by its fault. Assumes nothing.
-use borrow.Author.Rules.{rules}
 use Rattle.checks.proofs.checks.number_answer.Goals as goal
 
 pub returns-in-Refused : goal.returns-in-Refused

@@ -1,5 +1,4 @@
 -- `checks::sizes::is_canvas` meets its contract, test by test. Assumes nothing.
-use borrow.Author.Rules.{rules}
 use Rattle.checks.proofs.sizes.is_canvas.Goals as goal
 
 pub returns : goal.returns

@@ -1,5 +1,4 @@
 -- `checks::sizes::on_canvas` meets its contract, across and down. Assumes nothing.
-use borrow.Author.Rules.{rules}
 use Rattle.checks.proofs.sizes.on_canvas.Goals as goal
 
 pub returns : goal.returns

@@ -5,7 +5,6 @@ use Rattle.filter.specs.Kinds.{reads}
 use Rattle.filter.specs.Layers.{reached}
 use Rattle.filter.specs.Rect.{canvas_of, meet}
 use mathlib.Core.Path.{◌≡◌}
-use borrow.Author.Rules.{rules}
 use Rattle.damage.proofs.damage.damage_of.Goals as goal
 
 pub returns : goal.returns

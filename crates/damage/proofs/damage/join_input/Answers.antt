@@ -1,6 +1,5 @@
 -- `damage::damage::join_input` meets its contract: the input, or the rest alone. Assumes nothing.
 use native.Mathlib.Omega.{arith}
-use borrow.Author.Rules.{rules}
 use Rattle.damage.proofs.damage.join_input.Goals as goal
 
 pub widen-requires : goal.widen-requires

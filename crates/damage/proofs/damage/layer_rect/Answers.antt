@@ -4,7 +4,6 @@ use lib.ListN.{length}
 use mathlib.Core.Path.{sym, ◌∙◌}
 use native.Mathlib.Omega.{arith}
 use lib.ListN.{get_or-eq_default}
-use borrow.Author.Rules.{rules}
 use Rattle.damage.proofs.damage.layer_rect.Goals as goal
 
 pub returns : goal.returns

@@ -2,16 +2,6 @@
 use Rattle.filter.specs.Kinds.{reads}
 use Rattle.filter.specs.Accepted.{Measured}
 use Rattle.filter.specs.Layers.{reached}
-use borrow.Author.Rules.{rules}
-use Rattle.damage.proofs.damage.reached.Reads as reads
-use Rattle.damage.proofs.damage.reached.Lts as lts
-use Rattle.damage.proofs.damage.join_input.Reads as join-input-reads
-use Rattle.damage.proofs.damage.reached_convolve.Reads as reached-convolve-reads
-use Rattle.damage.proofs.damage.reached_merge.Reads as reached-merge-reads
-use Rattle.damage.proofs.damage.reached_pair.Reads as reached-pair-reads
-use Rattle.damage.proofs.damage.reached_pass.Reads as reached-pass-reads
-use Rattle.damage.proofs.damage.reached_shift.Reads as reached-shift-reads
-use Rattle.damage.proofs.rectangle.none.Reads as none_reads
 use Rattle.damage.proofs.damage.reached.Goals as goal
 
 pub reached_shift-requires : goal.reached_shift-requires

@@ -3,15 +3,6 @@ use native.Mathlib.Omega.{arith}
 use Rattle.filter.specs.Layers.{reached}
 use Rattle.filter.proofs.FewNumbers.{kernel-fits}
 use Rattle.damage.proofs.RectLaws.{sight-is}
-use borrow.Author.Rules.{rules}
-use Rattle.damage.proofs.damage.reached_convolve.Reads as reads
-use Rattle.damage.proofs.damage.reached_convolve.Lts as lts
-use Rattle.damage.proofs.damage.kernel_ahead.Reads as kernel-ahead-reads
-use Rattle.damage.proofs.damage.kernel_back.Reads as kernel-back-reads
-use Rattle.damage.proofs.damage.rect_at.Reads as rect-at-reads
-use Rattle.damage.proofs.rectangle.join.Reads as join-reads
-use Rattle.damage.proofs.rectangle.none.Reads as none_reads
-use Rattle.damage.proofs.rectangle.widen.Reads as widen-reads
 use Rattle.damage.proofs.damage.reached_convolve.Goals as goal
 
 pub kernel_ahead-left-requires : goal.kernel_ahead-left-requires

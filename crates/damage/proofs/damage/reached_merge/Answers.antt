@@ -1,7 +1,6 @@
 -- `damage::damage::reached_merge` meets its contract: as many inputs as there are. Assumes nothing.
 use Rattle.damage.specs.InputRects.{rect_of}
 use Rattle.damage.proofs.DamagesSoFar.{merge-reached}
-use borrow.Author.Rules.{rules}
 use Rattle.damage.proofs.damage.reached_merge.Goals as goal
 
 pub returns : goal.returns

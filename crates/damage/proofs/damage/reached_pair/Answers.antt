@@ -1,6 +1,5 @@
 -- `damage::damage::reached_pair` meets its contract, call by call. Assumes nothing.
 use Rattle.filter.specs.Layers.{reached}
-use borrow.Author.Rules.{rules}
 use Rattle.damage.proofs.damage.reached_pair.Goals as goal
 
 pub returns : goal.returns

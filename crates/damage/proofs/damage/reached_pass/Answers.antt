@@ -1,6 +1,5 @@
 -- `damage::damage::reached_pass` meets its contract, call by call. Assumes nothing.
 use Rattle.filter.specs.Layers.{reached}
-use borrow.Author.Rules.{rules}
 use Rattle.damage.proofs.damage.reached_pass.Goals as goal
 
 pub widen-requires : goal.widen-requires
@@ -8,4 +7,4 @@ widen-requires c = (rw c.rect_at-r.ensures (c.requires.0.each c.args.input), c.b
 
 pub returns : goal.returns
 unfolding reached
-returns c = rw (c.join.ensures, c.widen.ensures, c.rect_at-r.ensures, c.none.ensures, c.back_of-down.ensures.0, c.ahead_of-up.ensures.0, c.back_of-right.ensures.0, c.ahead_of_lem.ensures.0)
+returns c = rw (c.join.ensures, c.widen.ensures, c.rect_at-r.ensures, c.none.ensures, c.back_of-down.ensures.0, c.ahead_of-up.ensures.0, c.back_of-right.ensures.0, c.ahead_of-left.ensures.0)

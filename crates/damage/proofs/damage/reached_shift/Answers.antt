@@ -1,6 +1,5 @@
 -- `damage::damage::reached_shift` meets its contract, call by call. Assumes nothing.
 use Rattle.filter.specs.Layers.{reached}
-use borrow.Author.Rules.{rules}
 use Rattle.damage.proofs.damage.reached_shift.Goals as goal
 
 pub shift-requires : goal.shift-requires

@@ -1,6 +1,5 @@
 -- `damage::damage::rect_at` meets its contract, input by input. Assumes nothing.
 use Rattle.damage.specs.InputRects.{rect_of}
-use borrow.Author.Rules.{rules}
 use Rattle.damage.proofs.damage.rect_at.Goals as goal
 
 pub returns-in-Source : goal.returns-in-Source

@@ -1,6 +1,5 @@
 -- `damage::progress::with_space` meets its contract. Assumes nothing.
 use mathlib.Core.Path.{refl}
-use borrow.Author.Rules.{rules}
 use Rattle.damage.proofs.progress.with_space.Goals as goal
 
 pub returns : goal.returns

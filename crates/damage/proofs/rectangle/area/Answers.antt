@@ -2,7 +2,6 @@
 use Rattle.window.proofs.Numbers.{area-le}
 use Rattle.damage.proofs.RectLaws.{area-is}
 use native.Mathlib.Omega.{arith}
-use borrow.Author.Rules.{rules}
 use Rattle.damage.proofs.rectangle.area.Goals as goal
 
 pub overflow_mul-result : goal.overflow_mul-result

@@ -1,6 +1,5 @@
 -- `damage::rectangle::hull` meets its contract, bound by bound. Assumes nothing.
 use Rattle.damage.proofs.RectLaws.{rect-by}
-use borrow.Author.Rules.{rules}
 use Rattle.damage.proofs.rectangle.hull.Goals as goal
 
 pub returns : goal.returns

@@ -1,7 +1,6 @@
 -- `damage::rectangle::join` meets its contract, by which of the two are filled. Assumes nothing.
 use Rattle.damage.proofs.RectLaws.{join-both, join_first, join-second}
 use mathlib.Core.Path.{sym, ◌∙◌}
-use borrow.Author.Rules.{rules}
 use Rattle.damage.proofs.rectangle.join.Goals as goal
 
 pub returns-then-is_filled-2 : goal.returns-then-is_filled-2

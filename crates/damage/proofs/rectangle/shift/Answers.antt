@@ -3,7 +3,6 @@ use Rattle.filter.proofs.PlacesInRects.{true-filled}
 use Rattle.damage.proofs.RectLaws.{grow-moved, grow-none}
 use native.Mathlib.Omega.{arith}
 use mathlib.Core.Path.{sym, ◌∙◌}
-use borrow.Author.Rules.{rules}
 use Rattle.damage.proofs.rectangle.shift.Goals as goal
 
 pub slide-requires : goal.slide-requires

@@ -1,7 +1,6 @@
 -- `damage::rectangle::widen` meets its contract, bound by bound. Assumes nothing.
 use Rattle.damage.proofs.RectLaws.{grow-span, grow-none}
 use mathlib.Core.Path.{refl, sym, ◌∙◌}
-use borrow.Author.Rules.{rules}
 use Rattle.damage.proofs.rectangle.widen.Goals as goal
 
 pub returns-then-is_filled : goal.returns-then-is_filled

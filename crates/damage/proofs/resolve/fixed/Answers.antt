@@ -1,5 +1,4 @@
 -- `damage::resolve::fixed` meets its contract: a refused number has no units. Assumes nothing.
-use borrow.Author.Rules.{rules}
 use Rattle.damage.proofs.resolve.fixed.Goals as goal
 
 pub returns-in-Refused : goal.returns-in-Refused

@@ -1,5 +1,4 @@
 -- `damage::resolve::inputs` meets its contract, input by input. Assumes nothing.
-use borrow.Author.Rules.{rules}
 use Rattle.damage.proofs.resolve.inputs.Goals as goal
 
 pub returns : goal.returns

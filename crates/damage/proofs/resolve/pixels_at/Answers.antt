@@ -5,7 +5,6 @@ use Rattle.number.specs.declared.Range.TheVariants.{Deviation, Radius}
 use Rattle.number.specs.Number.{judged, fixed_of}
 use Rattle.filter.specs.Steps.{number_at, size_of, radius_of}
 use mathlib.Core.Path.{sym, ap, ◌∙◌}
-use borrow.Author.Rules.{rules}
 use Rattle.damage.proofs.resolve.pixels_at.Goals as goal
 
 pub returns-in-Blur : goal.returns-in-Blur

@@ -1,5 +1,4 @@
 -- `damage::resolve::radius_at` meets its contract: the whole units. Assumes nothing.
-use borrow.Author.Rules.{rules}
 use Rattle.damage.proofs.resolve.radius_at.Goals as goal
 
 pub returns : goal.returns

@@ -1,5 +1,5 @@
 -- `damage::resolve::resolve` meets its contract: the loop sets the step's own values. Assumes nothing.
-use Rattle.damage.proofs.StepLaws.{Valued, valued-none, valued-more, valued-all}
+use Rattle.damage.proofs.StepLaws.{valued-none, valued-more, valued-all}
 use Rattle.number.specs.declared.Fixed.{Fixed}
 use Rattle.number.specs.declared.Range.{Range}
 use Rattle.number.specs.Number.{judged, fixed_of}
@@ -15,10 +15,9 @@ use Rattle.filter.specs.Steps.{number_at, listed, values_of}
 use mathlib.Core.Bool.{cond}
 use mathlib.Core.List.{List}
 use mathlib.Core.Path.{◌≡◌, ap, ap₂, ◌∙◌}
-use Prim.Native.Nat.{ℕ, ◌≤◌, ◌<◌, ◌-◌, min}
+use Prim.Native.Nat.{ℕ, ◌<◌, min}
 use native.Mathlib.Omega.{arith}
 use lib.Dec.{ltb}
-use borrow.Author.Rules.{rules}
 use Rattle.damage.proofs.resolve.resolve.Goals as goal
 
 abbrev units : Numbers → Step → ℕ → Fixed

@@ -1,15 +1,5 @@
 -- `damage::resolve::shape_of` meets its contract. Assumes nothing.
 use Rattle.filter.specs.Steps.{shaped}
-use borrow.Author.Rules.{rules}
-use Rattle.damage.proofs.resolve.shape_of.Reads as reads
-use Rattle.damage.proofs.resolve.shape_of.Lts as lts
-use Rattle.damage.proofs.resolve.inputs.Reads as inputs-reads
-use Rattle.damage.proofs.resolve.pixels_at.Reads as pixels-at-reads
-use Rattle.damage.proofs.resolve.shift_at.Reads as shift-at-reads
-use Rattle.damage.proofs.resolve.units_at.Reads as units-at-reads
-use Rattle.filter.proofs.steps.input_at.Reads as input-at-reads
-use Rattle.pixel.proofs.convert.convert.Reads as convert-reads
-use Rattle.pixel.proofs.flood.flood.Reads as flood-reads
 use Rattle.damage.proofs.resolve.shape_of.Goals as goal
 
 pub returns-in-Flood : goal.returns-in-Flood

@@ -1,5 +1,4 @@
 -- `damage::resolve::shift_at` meets its contract: the whole units, above and below zero. Assumes nothing.
-use borrow.Author.Rules.{rules}
 use Rattle.damage.proofs.resolve.shift_at.Goals as goal
 
 pub returns : goal.returns

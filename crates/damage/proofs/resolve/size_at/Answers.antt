@@ -2,7 +2,6 @@
 use Rattle.filter.specs.Steps.{size_of}
 use Rattle.number.specs.declared.Fixed.{Fixed}
 use mathlib.Core.Path.{ap, ◌∙◌}
-use borrow.Author.Rules.{rules}
 use Rattle.damage.proofs.resolve.size_at.Goals as goal
 
 pub returns : goal.returns

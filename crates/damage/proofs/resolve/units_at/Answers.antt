@@ -1,6 +1,5 @@
 -- `damage::resolve::units_at` meets its contract: the units lie within the range, accepted or not. Assumes nothing.
 use Rattle.damage.proofs.StepLaws.{units-are}
-use borrow.Author.Rules.{rules}
 use Rattle.damage.proofs.resolve.units_at.Goals as goal
 
 pub returns : goal.returns

@@ -1,13 +1,8 @@
 -- `draw_blur::lanes::deal_rows` meets its contract: each turn fills one lane. Assumes nothing.
-use Prim.Native.Nat.{ℕ, ◌+◌, ◌-◌, ◌*◌, ◌≤◌, ◌<◌}
-use mathlib.Core.Path.{◌≡◌, ◌∙◌}
+use mathlib.Core.Path.{◌≡◌}
 use native.Mathlib.Omega.{arith}
 use borrow.Author.Rules.{rules}
-use lib.ListN.{length}
-use Rattle.buffers.specs.Shown.{shown}
 use Rattle.buffers.proofs.Seen.{held}
-use Rattle.filter.specs.Limits.{longest_row}
-use Rattle.draw_blur.specs.Lanes.{Dealt}
 use Rattle.draw_blur.proofs.RowsAsLanes.{dealt-none, dealt-more}
 use Rattle.draw_blur.proofs.lanes.deal_rows.Goals as goal
 
@@ -23,10 +18,12 @@ pub see-seen-requires : goal.see-seen-requires
 see-seen-requires c =
     let L = c.loop-k in
     let C = c.copy_layer.ensures in
-    let a = c.args in (
-      (c.requires.readable.0, record { high = omega arith; order = c.requires.from_le_to.0; wide = c.requires.from_le_to.1 }),
-      ((c.requires.readable.1, omega (arith, c.requires.readable.0.sized.wide, c.requires.from_le_to.1, L.invariant.1, C.long)), held a.context a.input _ a.source.now a.workspace.now _ _ _ C),
-    )
+    let a = c.args in
+    record {
+      readable = (c.requires.readable.0, record { high = omega arith; order = c.requires.from_le_to.0; wide = c.requires.from_le_to.1 });
+      input_value = (c.requires.readable.1, omega (arith, c.requires.readable.0.sized.wide, c.requires.from_le_to.1, L.invariant.1, C.long));
+      layer_held = held a.context a.input _ a.source.now a.workspace.now _ _ _ C;
+    }
 
 pub deal_row-requires : goal.deal_row-requires
 deal_row-requires c =
@@ -40,7 +37,7 @@ loop-k-preserved c =
     let C = c.copy_layer.ensures in
     let seen = c.see-seen.ensures in
     let R = c.deal_row.ensures in
-    (omega arith, c.row-in-loop-k-3-1.given.1, dealt-more _ _ _ _ _ _ _ _ _ (omega arith) L.invariant.2 seen.held R)
+    (omega arith, search rules, dealt-more _ _ _ _ _ _ _ _ _ (omega arith) L.invariant.2 seen.held R)
 
 pub shape_of-lines : goal.shape_of-lines
 shape_of-lines c = c.loop-k.invariant.2.long

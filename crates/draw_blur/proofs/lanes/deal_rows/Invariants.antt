@@ -1,13 +1,9 @@
-use Prim.Native.Nat.{ℕ, ◌+◌, ◌-◌, ◌*◌, ◌≤◌, ◌<◌}
-use mathlib.Core.Path.{◌≡◌, ◌∙◌}
-use native.Mathlib.Omega.{arith}
-use borrow.Author.Rules.{rules}
+use Prim.Native.Nat.{◌≤◌}
+use mathlib.Core.Path.{◌≡◌}
 use lib.ListN.{length}
 use Rattle.buffers.specs.Shown.{shown}
-use Rattle.buffers.proofs.Seen.{held}
 use Rattle.filter.specs.Limits.{longest_row}
 use Rattle.draw_blur.specs.Lanes.{Dealt}
-use Rattle.draw_blur.proofs.RowsAsLanes.{dealt-none, dealt-more}
 use Rattle.draw_blur.proofs.lanes.deal_rows.Given as goal
 
 abbrev pub invariant-loop-k : goal.invariant-loop-k

@@ -1,10 +1,7 @@
 -- `draw_blur::lanes::gather_rows` meets its contract: each turn copies one lane. Assumes nothing.
-use Prim.Native.Nat.{◌-◌, ◌≤◌}
 use mathlib.Core.Path.{◌≡◌}
 use native.Mathlib.Omega.{arith}
-use borrow.Author.Rules.{rules}
 use Rattle.window.proofs.Numbers.{line-end}
-use Rattle.draw_blur.specs.Lanes.{Gathered}
 use Rattle.draw_blur.proofs.RowsAsLanes.{gathered_none, gathered-more}
 use Rattle.draw_blur.proofs.lanes.gather_rows.Goals as goal
 

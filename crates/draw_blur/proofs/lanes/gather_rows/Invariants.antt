@@ -1,10 +1,5 @@
-use Prim.Native.Nat.{◌-◌, ◌≤◌}
-use mathlib.Core.Path.{◌≡◌}
-use native.Mathlib.Omega.{arith}
-use borrow.Author.Rules.{rules}
-use Rattle.window.proofs.Numbers.{line-end}
+use Prim.Native.Nat.{◌≤◌}
 use Rattle.draw_blur.specs.Lanes.{Gathered}
-use Rattle.draw_blur.proofs.RowsAsLanes.{gathered_none, gathered-more}
 use Rattle.draw_blur.proofs.lanes.gather_rows.Given as goal
 
 abbrev pub invariant-loop-k : goal.invariant-loop-k

@@ -6,12 +6,6 @@ use Rattle.window.proofs.Numbers.{area-le}
 use Rattle.pixel.proofs.PaintedRows.{painted-as}
 use Rattle.buffers.proofs.RowsFit.{row_ends}
 use Rattle.draw_convolve.proofs.StagedRows.{line-laid, line-blank}
-use borrow.Author.Rules.{rules}
-use Rattle.draw_convolve.proofs.lines.lay.Reads as reads
-use Rattle.draw_convolve.proofs.lines.lay.Lts as lts
-use Rattle.kernel_lines.proofs.clear_line.Reads as clear-line-reads
-use Rattle.kernel_lines.proofs.lay_line.Reads as lay-line-reads
-use Rattle.kernel_lines.proofs.place_of.Reads as place-of-reads
 use Rattle.draw_convolve.proofs.lines.lay.Goals as goal
 
 pub overflow_mul-o : goal.overflow_mul-o

@@ -1,14 +1,7 @@
 -- `draw_convolve::lines::lay_lines` meets its contract. Assumes nothing.
-use Prim.Native.Nat.{◌+◌, ◌-◌, ◌≤◌}
-use mathlib.Core.Path.{◌≡◌, refl, ◌∙◌}
+use mathlib.Core.Path.{refl, ◌∙◌}
 use native.Mathlib.Omega.{arith}
-use lib.ListN.{length}
-use Rattle.filter.specs.Picture.{Picture}
-use Rattle.draw_convolve.specs.Staged.{ScratchHolds}
-use Rattle.draw_convolve.proofs.StagedRows.{LinesBefore, lines_none, lines_more}
-use Rattle.draw_convolve.proofs.lines.lay_lines.Reads as reads
-use Rattle.draw_convolve.proofs.lines.lay_lines.Lts as lts
-use Rattle.draw_convolve.proofs.lines.lay.Reads as lay-reads
+use Rattle.draw_convolve.proofs.StagedRows.{lines_none, lines_more}
 use Rattle.draw_convolve.proofs.lines.lay_lines.Goals as goal
 
 pub loop-i-init : goal.loop-i-init
@@ -35,9 +28,6 @@ lay-requires c =
 
 pub overflow_step-i : goal.overflow_step-i
 overflow_step-i c = omega (arith, c.loop-i-test.true, c.requires.0.few_rows)
-
-pub loop-i-smaller : goal.loop-i-smaller
-loop-i-smaller c = omega (arith, c.loop-i-test.true)
 
 pub loop-i-preserved : goal.loop-i-preserved
 loop-i-preserved c =

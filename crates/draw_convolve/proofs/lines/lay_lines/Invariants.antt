@@ -1,13 +1,9 @@
-use Prim.Native.Nat.{◌+◌, ◌-◌, ◌≤◌}
-use mathlib.Core.Path.{◌≡◌, refl, ◌∙◌}
-use native.Mathlib.Omega.{arith}
+use Prim.Native.Nat.{◌+◌, ◌≤◌}
+use mathlib.Core.Path.{◌≡◌}
 use lib.ListN.{length}
 use Rattle.filter.specs.Picture.{Picture}
 use Rattle.draw_convolve.specs.Staged.{ScratchHolds}
-use Rattle.draw_convolve.proofs.StagedRows.{LinesBefore, lines_none, lines_more}
-use Rattle.draw_convolve.proofs.lines.lay_lines.Reads as reads
-use Rattle.draw_convolve.proofs.lines.lay_lines.Lts as lts
-use Rattle.draw_convolve.proofs.lines.lay.Reads as lay-reads
+use Rattle.draw_convolve.proofs.StagedRows.{LinesBefore}
 use Rattle.draw_convolve.proofs.lines.lay_lines.Given as goal
 
 abbrev pub invariant-loop-i : goal.invariant-loop-i

@@ -5,12 +5,6 @@ use Rattle.buffers.specs.Shown.{shown}
 use Rattle.buffers.proofs.Seen.{held}
 use Rattle.buffers.proofs.RowsFit.{row_ends}
 use Rattle.draw_convolve.proofs.StagedRows.{row_loaded}
-use borrow.Author.Rules.{rules}
-use Rattle.draw_convolve.proofs.stage.load_row.Reads as reads
-use Rattle.draw_convolve.proofs.stage.load_row.Lts as lts
-use Rattle.buffers.proofs.copy_layer.Reads as copy-layer-reads
-use Rattle.buffers.proofs.see.Reads as see-reads
-use Rattle.kernel_row.proofs.row.copy_pixels.Reads as copy-pixels-reads
 use Rattle.draw_convolve.proofs.stage.load_row.Goals as goal
 
 pub copy_layer-requires : goal.copy_layer-requires
@@ -20,10 +14,12 @@ copy_layer-requires c =
 pub see-seen-requires : goal.see-seen-requires
 see-seen-requires c =
     let a = c.args in
-    let C = c.copy_layer.ensures in (
-      (c.requires.readable.0, record { high = c.requires.input_value.1; order = omega arith; wide = omega arith }),
-      ((c.requires.input_value.0, omega (arith, c.requires.readable.0.sized.wide, C.long)), held a.context a.input _ a.source.now a.workspace.now _ _ _ C),
-    )
+    let C = c.copy_layer.ensures in
+    record {
+      readable = (c.requires.readable.0, record { high = c.requires.input_value.1; order = omega arith; wide = omega arith });
+      input_value = (c.requires.input_value.0, omega (arith, c.requires.readable.0.sized.wide, C.long));
+      layer_held = held a.context a.input _ a.source.now a.workspace.now _ _ _ C;
+    }
 
 pub overflow_mul-at : goal.overflow_mul-at
 overflow_mul-at c =

@@ -2,10 +2,6 @@
 use native.Mathlib.Omega.{arith}
 use Rattle.filter.proofs.FewNumbers.{kernel-fits}
 use Rattle.draw_convolve.proofs.RowsRead.{rows-looked}
-use borrow.Author.Rules.{rules}
-use Rattle.draw_convolve.proofs.stage.rows_read.Reads as reads
-use Rattle.draw_convolve.proofs.stage.rows_read.Lts as lts
-use Rattle.draw_window.proofs.looked_at.Reads as looked-at-reads
 use Rattle.draw_convolve.proofs.stage.rows_read.Goals as goal
 
 pub overflow_sub-ahead : goal.overflow_sub-ahead

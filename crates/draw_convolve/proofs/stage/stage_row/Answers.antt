@@ -5,18 +5,13 @@ use Rattle.buffers.specs.Shown.{shown}
 use Rattle.buffers.proofs.RowsFit.{row_ends}
 use Rattle.buffers.proofs.ShownInputs.{drawable-valid}
 use Rattle.draw_convolve.proofs.StagedRows.{row-valid, row-straightened}
-use borrow.Author.Rules.{rules}
-use Rattle.draw_convolve.proofs.stage.stage_row.Reads as reads
-use Rattle.draw_convolve.proofs.stage.stage_row.Lts as lts
-use Rattle.draw_convolve.proofs.stage.load_row.Reads as load-row-reads
-use Rattle.draw_convolve.proofs.stage.straighten_row.Reads as straighten-row-reads
 use Rattle.draw_convolve.proofs.stage.stage_row.Goals as goal
 
 pub straighten_row-requires : goal.straighten_row-requires
 straighten_row-requires c =
     let a = c.args in
     let g : Picture = shown a.context a.source.now a.workspace.now a.input in
-    let P = c.Load-row.ensures in
+    let P = c.load_row.ensures in
     let D = c.requires.drawable.0 in
     let fits = row_ends a.context.w a.context.h a.y c.requires.input_value.1 in
     let good = (drawable-valid a.context a.source.now a.workspace.now a.pairs.now D).valid a.input c.requires.input_value.0 in
@@ -25,7 +20,7 @@ straighten_row-requires c =
 pub returns-then-preserve : goal.returns-then-preserve
 returns-then-preserve c =
     let e = c.if-preserve.true in
-    rw e (row-straightened (shown c.args.context c.args.source.now c.args.workspace.now c.args.input) c.args.y c.args.context.w _ _ _ c.Load-row.ensures c.straighten_row.ensures)
+    rw e (row-straightened (shown c.args.context c.args.source.now c.args.workspace.now c.args.input) c.args.y c.args.context.w _ _ _ c.load_row.ensures c.straighten_row.ensures)
 
 pub returns-else-preserve : goal.returns-else-preserve
-returns-else-preserve c = let e = c.if-preserve.false in rw e c.Load-row.ensures
+returns-else-preserve c = let e = c.if-preserve.false in rw e c.load_row.ensures

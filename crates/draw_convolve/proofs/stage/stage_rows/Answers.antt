@@ -1,29 +1,19 @@
 -- `draw_convolve::stage::stage_rows` meets its contract. Assumes nothing.
-use Prim.Native.Nat.{◌-◌, ◌≤◌}
-use mathlib.Core.Path.{◌≡◌, refl, ◌∙◌}
+use mathlib.Core.Path.{refl, ◌∙◌}
 use native.Mathlib.Omega.{arith}
-use lib.ListN.{length}
-use Rattle.buffers.specs.Shown.{shown}
-use Rattle.draw_convolve.specs.Staged.{Staged}
 use Rattle.draw_convolve.proofs.StagedRows.{staged-none, staged-more}
-use Rattle.draw_convolve.proofs.stage.stage_rows.Reads as reads
-use Rattle.draw_convolve.proofs.stage.stage_rows.Lts as lts
-use Rattle.draw_convolve.proofs.stage.stage_row.Reads as stage-row-reads
 use Rattle.draw_convolve.proofs.stage.stage_rows.Goals as goal
 
 pub loop-y-init : goal.loop-y-init
-loop-y-init c = (omega arith, c.requires.input_value.0.1, refl, staged-none _ _ _ _ _)
+loop-y-init c = (omega arith, c.requires.input_value.1, refl, staged-none _ _ _ _ _)
 
 pub stage_row-requires : goal.stage_row-requires
 stage_row-requires c =
     let L = c.loop-y.invariant in
-    record { drawable = (c.requires.drawable.0, L.2 ∙ c.requires.drawable.1); input_value = (c.requires.input_value.0.0, omega (arith, c.loop-y-test.true, c.requires.input_value.0.2), c.requires.input_value.1) }
+    record { drawable = (c.requires.drawable.0, L.2 ∙ c.requires.drawable.1); input_value = (c.requires.input_value.0, omega (arith, c.loop-y-test.true, c.requires.input_value.2), c.requires.unpremultiply_table) }
 
 pub overflow_step-y : goal.overflow_step-y
-overflow_step-y c = omega (arith, c.loop-y-test.true, c.requires.input_value.0.2, c.requires.drawable.0.readable.sized.high)
-
-pub loop-y-smaller : goal.loop-y-smaller
-loop-y-smaller c = omega (arith, c.loop-y-test.true)
+overflow_step-y c = omega (arith, c.loop-y-test.true, c.requires.input_value.2, c.requires.drawable.0.readable.sized.high)
 
 pub loop-y-preserved : goal.loop-y-preserved
 loop-y-preserved c =

@@ -1,13 +1,8 @@
-use Prim.Native.Nat.{◌-◌, ◌≤◌}
-use mathlib.Core.Path.{◌≡◌, refl, ◌∙◌}
-use native.Mathlib.Omega.{arith}
+use Prim.Native.Nat.{◌≤◌}
+use mathlib.Core.Path.{◌≡◌}
 use lib.ListN.{length}
 use Rattle.buffers.specs.Shown.{shown}
 use Rattle.draw_convolve.specs.Staged.{Staged}
-use Rattle.draw_convolve.proofs.StagedRows.{staged-none, staged-more}
-use Rattle.draw_convolve.proofs.stage.stage_rows.Reads as reads
-use Rattle.draw_convolve.proofs.stage.stage_rows.Lts as lts
-use Rattle.draw_convolve.proofs.stage.stage_row.Reads as stage-row-reads
 use Rattle.draw_convolve.proofs.stage.stage_rows.Given as goal
 
 abbrev pub invariant-loop-y : goal.invariant-loop-y

@@ -5,10 +5,6 @@ use native.Mathlib.Omega.{arith}
 use Rattle.pixel.specs.Alpha.{Valid, straight}
 use Rattle.pixel.proofs.PaintedRows.{pixel-part}
 use Rattle.buffers.proofs.LoadedRows.{part-long, painted-into}
-use borrow.Author.Rules.{rules}
-use Rattle.draw_convolve.proofs.stage.straighten_row.Reads as reads
-use Rattle.draw_convolve.proofs.stage.straighten_row.Lts as lts
-use Rattle.kernel_alpha.proofs.unpremultiply.unpremultiply_row.Reads as unpremultiply-row-reads
 use Rattle.draw_convolve.proofs.stage.straighten_row.Goals as goal
 
 pub unpremultiply_row-requires : goal.unpremultiply_row-requires

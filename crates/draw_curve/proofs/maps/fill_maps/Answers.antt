@@ -1,10 +1,8 @@
 -- `draw_curve::maps::fill_maps` meets its contract: four maps, one after another. Assumes nothing.
-use Prim.Native.Nat.{◌+◌}
 use native.Mathlib.Omega.{arith}
 use Rattle.filter.specs.Kinds.{curve_maps}
 use Rattle.draw_curve.proofs.Transfers.{transfers-counted, values-allowed, first-few, second-few, third-few}
 use Rattle.draw_curve.proofs.MapsFilled.{maps-held}
-use borrow.Author.Rules.{rules}
 use Rattle.draw_curve.proofs.maps.fill_maps.Goals as goal
 
 pub fill_map-requires : goal.fill_map-requires

@@ -3,7 +3,6 @@ use Prim.Native.Nat.{◌*◌}
 use Rattle.pixel.specs.Bytes.{pixel_at}
 use Rattle.pixel.proofs.PaintedRows.{painted-as}
 use Rattle.draw_curve.proofs.Curved.{by-tables, by-maps}
-use borrow.Author.Rules.{rules}
 use Rattle.draw_curve.proofs.row.curve_row.Goals as goal
 
 pub remap_row-requires : goal.remap_row-requires

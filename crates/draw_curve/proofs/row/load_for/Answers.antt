@@ -1,5 +1,5 @@
 -- `draw_curve::row::load_for` meets its contract: as it is kept, or as the step sees it. Assumes nothing.
-use Prim.Native.Nat.{◌+◌, ◌≤◌}
+use Prim.Native.Nat.{◌+◌}
 use mathlib.Core.Path.{ap}
 use native.Mathlib.Omega.{arith}
 use Rattle.filter.specs.Limits.{most_steps}
@@ -7,7 +7,6 @@ use Rattle.filter.specs.Picture.{Picture}
 use Rattle.pixel.proofs.PaintedRows.{painted-as}
 use Rattle.buffers.proofs.RowStarts.{allowed-more}
 use Rattle.draw_curve.proofs.Curved.{read_kept, read-shown}
-use borrow.Author.Rules.{rules}
 use Rattle.draw_curve.proofs.row.load_for.Goals as goal
 
 pub as_kept-kept-requires : goal.as_kept-kept-requires
@@ -17,10 +16,10 @@ as_kept-kept-requires c =
 pub bring-requires : goal.bring-requires
 bring-requires c =
     let R = c.requires.readable.0 in
-    rw c.as_kept-kept.ensures (
-      (record { sized = R.sized; tabled = record { good = λ l. absurd (omega arith) } }, record { high = c.requires.readable.1.high; order = c.requires.readable.1.order; wide = c.requires.readable.1.wide }),
-      c.requires.input_value,
-    )
+    rw c.as_kept-kept.ensures (record {
+      readable = (record { sized = R.sized; tabled = record { good = λ l. absurd (omega arith) } }, record { high = c.requires.readable.1.high; order = c.requires.readable.1.order; wide = c.requires.readable.1.wide });
+      input_value = c.requires.input_value;
+    })
 
 pub returns-then-tables-gt0 : goal.returns-then-tables-gt0
 returns-then-tables-gt0 c =

@@ -1,7 +1,6 @@
 -- `draw_map::methods::map_row` meets its contract, method by method. Assumes nothing.
 use Rattle.pixel.proofs.PaintedRows.{painted-as}
 use Rattle.draw_map.specs.Code.{by_method, Prepared}
-use borrow.Author.Rules.{rules}
 use Rattle.draw_map.proofs.methods.map_row.Goals as goal
 
 pub matrix_row-requires : goal.matrix_row-requires

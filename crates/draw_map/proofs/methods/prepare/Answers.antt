@@ -1,6 +1,5 @@
 -- `draw_map::methods::prepare` meets its contract: method by method. Assumes nothing.
 use Rattle.draw_map.specs.Code.{AllowedMethod, Prepared}
-use borrow.Author.Rules.{rules}
 use Rattle.draw_map.proofs.methods.prepare.Goals as goal
 
 pub prepare-requires-in-ByMatrix : goal.prepare-requires-in-ByMatrix

@@ -1,5 +1,4 @@
 -- `draw_map::values::matrix_of` meets its contract, row by row. Assumes nothing.
-use borrow.Author.Rules.{rules}
 use Rattle.draw_map.proofs.values.matrix_of.Goals as goal
 
 pub returns : goal.returns

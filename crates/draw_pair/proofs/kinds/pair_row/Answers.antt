@@ -2,7 +2,6 @@
 use Rattle.pixel.proofs.PaintedRows.{painted-as}
 use Rattle.draw_pair.specs.Code.{by_method, Prepared}
 use mathlib.Core.Path.{refl}
-use borrow.Author.Rules.{rules}
 use Rattle.draw_pair.proofs.kinds.pair_row.Goals as goal
 
 pub arithmetic_row-requires : goal.arithmetic_row-requires

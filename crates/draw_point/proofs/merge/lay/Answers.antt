@@ -12,28 +12,27 @@ use Rattle.buffers.specs.Shown.{shown}
 use Rattle.buffers.proofs.LoadedRows.{loaded-pixel, loaded-valid}
 use Rattle.buffers.proofs.Seen.{held}
 use Rattle.draw_point.proofs.StackedRows.{over-valid}
-use borrow.Author.Rules.{rules}
 use Rattle.draw_point.proofs.merge.lay.Goals as goal
 
 pub copy_layer-requires : goal.copy_layer-requires
 copy_layer-requires c =
     let D = c.requires.drawable in
-    record { sized = (D.0.readable.sized, D.2); input_value = (D.1, omega (arith, c.requires.work_row.0.0)) }
+    record { sized = (D.0.readable.sized, D.2); input_value = (D.1, omega (arith, c.requires.work_row.0)) }
 
 pub see-seen-requires : goal.see-seen-requires
 see-seen-requires c =
     let C = c.copy_layer.ensures in
     let a = c.args in
     let D = c.requires.drawable in
-    ((D.0.readable, D.2), ((D.1, omega (arith, C.long, c.requires.work_row.0.0)), held a.context a.i a.part a.source.now a.workspace.now _ _ _ C))
+    record { readable = (D.0.readable, D.2); input_value = (D.1, omega (arith, C.long, c.requires.work_row.0)); layer_held = held a.context a.i a.part a.source.now a.workspace.now _ _ _ C }
 
 pub over_onto-requires : goal.over_onto-requires
 over_onto-requires c =
     let seen = c.see-seen.ensures in
     let D = c.requires.drawable in
-    let R = c.requires.work_row.0 in
+    let R = c.requires.work_row in
     let v = loaded-valid _ _ _ _ _ _ seen.held ((drawable-valid _ _ _ _ D.0).valid _ D.1) in
-    record { a_len = (seen.long, R.1, R.2); valid_row = (v, c.requires.work_row.1) }
+    record { a_len = (seen.long, R.1, R.2); valid_row = (v, c.requires.valid_row) }
 
 pub returns : goal.returns
 returns c =
@@ -46,5 +45,5 @@ returns c =
       laid = painted-as _ _ _ _ _ _ _
           (λ x l h. ap (λ (p : Pixel). composited Over p (pixel_at a.under.now (4 * x))) (loaded-pixel q a.part.y a.part.from a.part.to _ _ seen.held x h))
           c.over_onto.ensures.painted;
-      valid_row_2 = over-valid _ _ _ _ v c.requires.work_row.1 c.over_onto.ensures.painted;
+      valid_row_2 = over-valid _ _ _ _ v c.requires.valid_row c.over_onto.ensures.painted;
     }

@@ -1,15 +1,13 @@
 -- `draw_point::merge::stack` meets its contract: each turn lays one input more over the row. Assumes nothing.
-use Prim.Native.Nat.{◌-◌, ◌≤◌, ◌<◌, max}
+use Prim.Native.Nat.{◌<◌}
 use mathlib.Core.Path.{◌≡◌, sym, ◌∙◌}
 use native.Mathlib.Omega.{arith}
 use Rattle.buffers.proofs.ShownInputs.{drawable-valid}
-use borrow.Author.Rules.{rules}
-use Rattle.pixel.specs.Bytes.{ValidRow}
 use Rattle.filter.specs.Kinds.{reads}
 use Rattle.filter.specs.Accepted.{Measured}
 use Rattle.buffers.specs.Shown.{shown}
 use Rattle.buffers.proofs.LoadedRows.{loaded-valid, loaded-stays}
-use Rattle.draw_point.specs.RowDrawn.{WorkRow, stack_of, RowStacked}
+use Rattle.draw_point.specs.RowDrawn.{stack_of}
 use Rattle.draw_point.proofs.StackedRows.{stacked-first, merge-allowed, stacked-row, stacked-all}
 use Rattle.draw_point.proofs.merge.stack.Goals as goal
 
@@ -44,7 +42,7 @@ lay-requires c =
     let I = c.loop-j.invariant in
     let few : j < 4 = omega (arith, c.loop-j-test.true, D.measured.1) in
     let ok = merge-allowed a.context.n a.count j a.inputs D.earlier c.loop-j-test.true few in
-    ((D.drawable, rw c.merge_input_at-input.ensures ok, c.requires.workable.1), ((I.4, I.5, I.2.long ∙ c.load_first.ensures.long ∙ c.requires.work_row.2), I.3))
+    record { drawable = (D.drawable, rw c.merge_input_at-input.ensures ok, c.requires.workable.1); work_row = (I.4, I.5, I.2.long ∙ c.load_first.ensures.long ∙ c.requires.work_row.2); valid_row = I.3 }
 
 pub overflow_step-j : goal.overflow_step-j
 overflow_step-j c =

@@ -1,15 +1,7 @@
-use Prim.Native.Nat.{◌-◌, ◌≤◌, ◌<◌, max}
-use mathlib.Core.Path.{◌≡◌, sym, ◌∙◌}
-use native.Mathlib.Omega.{arith}
-use Rattle.buffers.proofs.ShownInputs.{drawable-valid}
-use borrow.Author.Rules.{rules}
+use Prim.Native.Nat.{◌-◌, ◌≤◌, max}
 use Rattle.pixel.specs.Bytes.{ValidRow}
-use Rattle.filter.specs.Kinds.{reads}
-use Rattle.filter.specs.Accepted.{Measured}
 use Rattle.buffers.specs.Shown.{shown}
-use Rattle.buffers.proofs.LoadedRows.{loaded-valid, loaded-stays}
-use Rattle.draw_point.specs.RowDrawn.{WorkRow, stack_of, RowStacked}
-use Rattle.draw_point.proofs.StackedRows.{stacked-first, merge-allowed, stacked-row, stacked-all}
+use Rattle.draw_point.specs.RowDrawn.{WorkRow, RowStacked}
 use Rattle.draw_point.proofs.merge.stack.Given as goal
 
 abbrev pub invariant-loop-j : goal.invariant-loop-j

@@ -4,7 +4,6 @@ use Prim.Native.Nat.{◌+◌, ◌*◌, ◌≤◌}
 use mathlib.Core.Path.{refl, sym, ◌∙◌}
 use native.Mathlib.Omega.{arith}
 use lib.ListN.{length}
-use borrow.Author.Rules.{rules}
 use Rattle.pixel.proofs.PaintedRows.{painted-as}
 use Rattle.filter.specs.Kinds.{work_of, reads}
 use Rattle.filter.specs.Accepted.{Measured}
@@ -64,10 +63,12 @@ load-requires c =
     let D = c.requires.0 in
     let R = c.requires.1 in
     let K = cut-part a.context.w a.dx a.part _ _ R.order c.cut-first.ensures c.cut-last.ensures in
-    let C = c.copy_own.ensures in (
-      (D.drawable.readable, record { high = omega (arith, c.if-context-v.false, R.high); order = K.0; wide = K.1 }),
-      ((D.earlier.0, omega (arith, C.long, c.requires.2, K.2)), held a.context a.i _ a.source.now a.workspace.now _ _ _ C),
-    )
+    let C = c.copy_own.ensures in
+    record {
+      readable = (D.drawable.readable, record { high = omega (arith, c.if-context-v.false, R.high); order = K.0; wide = K.1 });
+      input_value = (D.earlier.0, omega (arith, C.long, c.requires.2, K.2));
+      own_held = held a.context a.i _ a.source.now a.workspace.now _ _ _ C;
+    }
 
 pub start-lo-requires : goal.start-lo-requires
 start-lo-requires c =

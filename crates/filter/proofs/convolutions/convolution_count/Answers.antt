@@ -1,8 +1,4 @@
 -- `filter::convolutions::convolution_count` meets its contract. Assumes nothing.
-use borrow.Author.Rules.{rules}
-use Rattle.filter.proofs.convolutions.convolution_count.Reads as reads
-use Rattle.filter.proofs.convolutions.convolution_count.Lts as lts
-use Rattle.filter.proofs.convolutions.values_in.Reads as values-in-reads
 use Rattle.filter.proofs.convolutions.convolution_count.Goals as goal
 
 pub returns-then-convolution : goal.returns-then-convolution

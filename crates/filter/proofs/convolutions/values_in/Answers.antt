@@ -2,10 +2,6 @@
 use mathlib.Core.Path.{sym, ◌∙◌}
 use native.Mathlib.Omega.{arith}
 use Rattle.filter.proofs.FewNumbers.{orders-allowed, cells-few}
-use borrow.Author.Rules.{rules}
-use Rattle.filter.proofs.convolutions.values_in.Reads as reads
-use Rattle.filter.proofs.convolutions.values_in.Lts as lts
-use Rattle.filter.proofs.convolutions.orders_allowed.Reads as orders-allowed-reads
 use Rattle.filter.proofs.convolutions.values_in.Goals as goal
 
 pub overflow_mul-result : goal.overflow_mul-result

@@ -1,5 +1,4 @@
 -- `filter::curves::are_allowed` meets its contract: all four channels. Assumes nothing.
-use borrow.Author.Rules.{rules}
 use Rattle.filter.proofs.curves.are_allowed.Goals as goal
 
 pub returns : goal.returns

@@ -2,7 +2,6 @@
 use mathlib.Core.Path.{sym, ◌∙◌}
 use native.Mathlib.Omega.{arith}
 use Rattle.filter.proofs.FewNumbers.{entries-few}
-use borrow.Author.Rules.{rules}
 use Rattle.filter.proofs.curves.entries_of.Goals as goal
 
 pub returns-then-entries_allowed : goal.returns-then-entries_allowed

@@ -1,5 +1,4 @@
 -- `filter::curves::is_allowed` meets its contract: kind by kind. Assumes nothing.
-use borrow.Author.Rules.{rules}
 use Rattle.filter.proofs.curves.is_allowed.Goals as goal
 
 pub returns-in-Table : goal.returns-in-Table

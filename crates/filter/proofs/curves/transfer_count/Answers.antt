@@ -1,5 +1,4 @@
 -- `filter::curves::transfer_count` meets its contract: kind by kind. Assumes nothing.
-use borrow.Author.Rules.{rules}
 use Rattle.filter.proofs.curves.transfer_count.Goals as goal
 
 pub returns-in-Table : goal.returns-in-Table

@@ -1,7 +1,6 @@
 -- `filter::kinds::ahead_of` meets its contract, kind by kind. Assumes nothing.
 use mathlib.Core.Path.{refl}
 use native.Mathlib.Omega.{arith}
-use borrow.Author.Rules.{rules}
 use Rattle.filter.proofs.kinds.ahead_of.Goals as goal
 
 pub spread_of-requires : goal.spread_of-requires

@@ -1,5 +1,4 @@
 -- `filter::kinds::curve_numbers` meets its contract: four groups. Assumes nothing.
-use borrow.Author.Rules.{rules}
 use Rattle.filter.proofs.kinds.curve_numbers.Goals as goal
 
 pub returns : goal.returns

@@ -1,5 +1,4 @@
 -- `filter::kinds::map_numbers` meets its contract: kind by kind. Assumes nothing.
-use borrow.Author.Rules.{rules}
 use Rattle.filter.proofs.kinds.map_numbers.Goals as goal
 
 pub returns-in-Matrix : goal.returns-in-Matrix

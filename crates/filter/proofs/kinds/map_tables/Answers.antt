@@ -1,5 +1,4 @@
 -- `filter::kinds::map_tables` meets its contract: kind by kind. Assumes nothing.
-use borrow.Author.Rules.{rules}
 use Rattle.filter.proofs.kinds.map_tables.Goals as goal
 
 pub returns-in-Curve : goal.returns-in-Curve

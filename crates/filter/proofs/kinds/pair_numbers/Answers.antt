@@ -1,5 +1,4 @@
 -- `filter::kinds::pair_numbers` meets its contract, kind by kind. Assumes nothing.
-use borrow.Author.Rules.{rules}
 use Rattle.filter.proofs.kinds.pair_numbers.Goals as goal
 
 pub returns-in-Operator : goal.returns-in-Operator

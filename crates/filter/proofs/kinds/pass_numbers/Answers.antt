@@ -1,5 +1,4 @@
 -- `filter::kinds::pass_numbers` meets its contract, kind by kind. Assumes nothing.
-use borrow.Author.Rules.{rules}
 use Rattle.filter.proofs.kinds.pass_numbers.Goals as goal
 
 pub returns-in-Blur : goal.returns-in-Blur

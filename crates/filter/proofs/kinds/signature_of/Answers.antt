@@ -1,16 +1,4 @@
 -- `filter::kinds::signature_of` meets its contract. Assumes nothing.
-use borrow.Author.Rules.{rules}
-use Rattle.filter.proofs.kinds.signature_of.Reads as reads
-use Rattle.filter.proofs.kinds.signature_of.Lts as lts
-use Rattle.filter.proofs.convolutions.convolution_count.Reads as convolution-count-reads
-use Rattle.filter.proofs.convolutions.divisor_place.Reads as divisor-place-reads
-use Rattle.filter.proofs.convolutions.is_allowed.Reads as is-allowed-reads
-use Rattle.filter.proofs.kinds.map_numbers.Reads as map-numbers-reads
-use Rattle.filter.proofs.kinds.map_tables.Reads as map-tables-reads
-use Rattle.filter.proofs.kinds.numbers_alike.Reads as numbers-alike-reads
-use Rattle.filter.proofs.kinds.pair_numbers.Reads as pair-numbers-reads
-use Rattle.filter.proofs.kinds.pass_numbers.Reads as pass-numbers-reads
-use Rattle.filter.proofs.kinds.signature.Reads as signature-reads
 use Rattle.filter.proofs.kinds.signature_of.Goals as goal
 
 pub returns-in-Flood : goal.returns-in-Flood

@@ -5,7 +5,6 @@ use native.Mathlib.Omega.{arith}
 use lib.ListN.{length, get_or-eq_default}
 use Rattle.filter.specs.declared.StepNumber.{StepNumber}
 use Rattle.filter.specs.Steps.{no_number}
-use borrow.Author.Rules.{rules}
 use Rattle.filter.proofs.steps.number_in.Goals as goal
 
 pub returns : goal.returns

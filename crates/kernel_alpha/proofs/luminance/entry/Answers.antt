@@ -1,6 +1,5 @@
 -- `kernel_alpha::luminance::entry` meets its contract: each test that led to a product. Assumes nothing.
 use borrow.Author.Tests.{lt-ltb, le-ltb}
-use borrow.Author.Rules.{rules}
 use Rattle.kernel_alpha.proofs.luminance.entry.Goals as goal
 
 pub returns-then-i-lt256 : goal.returns-then-i-lt256

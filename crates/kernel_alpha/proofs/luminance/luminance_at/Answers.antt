@@ -1,6 +1,5 @@
 -- `kernel_alpha::luminance::luminance_at` meets its contract: the law of the luminance of a pixel. Assumes nothing.
 use mathlib.Core.Path.{◌∙◌}
-use borrow.Author.Rules.{rules}
 use Rattle.pixel.specs.Bytes.{pixel_at}
 use Rattle.pixel.proofs.PaintedRows.{painted-as}
 use Rattle.kernel_alpha.proofs.LuminanceByTable.{luminance-pixel}

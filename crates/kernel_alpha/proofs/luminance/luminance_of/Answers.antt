@@ -3,7 +3,6 @@ use mathlib.Core.Path.{◌≡◌}
 use Prim.Native.Nat.{◌+◌, ◌*◌}
 use lib.ListN.{get_or}
 use native.Mathlib.Omega.{arith}
-use borrow.Author.Rules.{rules}
 use Rattle.kernel_alpha.proofs.luminance.luminance_of.Goals as goal
 
 pub overflow_add-result-2 : goal.overflow_add-result-2

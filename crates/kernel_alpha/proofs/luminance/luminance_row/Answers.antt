@@ -1,11 +1,7 @@
 -- `kernel_alpha::luminance::luminance_row` meets its contract: one pixel more in each turn. Assumes nothing.
 use mathlib.Core.Path.{◌≡◌, refl}
-use Prim.Native.Nat.{◌-◌, ◌*◌, ◌≤◌}
 use native.Mathlib.Omega.{arith}
-use borrow.Author.Rules.{rules}
-use Rattle.pixel.specs.Bytes.{pixel_at, Painted}
 use Rattle.pixel.proofs.PaintedRows.{painted-none, painted-more}
-use Rattle.pixel.specs.Matrix.{luminance, by_matrix}
 use Rattle.kernel_alpha.proofs.luminance.luminance_row.Goals as goal
 
 pub loop-x-init : goal.loop-x-init

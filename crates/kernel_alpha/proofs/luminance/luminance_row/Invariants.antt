@@ -1,9 +1,5 @@
-use mathlib.Core.Path.{◌≡◌, refl}
-use Prim.Native.Nat.{◌-◌, ◌*◌, ◌≤◌}
-use native.Mathlib.Omega.{arith}
-use borrow.Author.Rules.{rules}
+use Prim.Native.Nat.{◌*◌, ◌≤◌}
 use Rattle.pixel.specs.Bytes.{pixel_at, Painted}
-use Rattle.pixel.proofs.PaintedRows.{painted-none, painted-more}
 use Rattle.pixel.specs.Matrix.{luminance, by_matrix}
 use Rattle.kernel_alpha.proofs.luminance.luminance_row.Given as goal
 

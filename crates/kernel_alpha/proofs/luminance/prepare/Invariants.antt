@@ -1,12 +1,6 @@
-use mathlib.Core.Path.{◌≡◌}
-use Prim.Native.Nat.{◌-◌, ◌≤◌, ◌<◌}
-use lib.ListN.{length}
-use native.Mathlib.Omega.{arith}
-use borrow.Author.Rules.{rules}
+use Prim.Native.Nat.{◌≤◌}
 use Rattle.window.specs.Store.{Filled}
-use Rattle.window.proofs.Store.{filled_none, filled_more}
 use Rattle.kernel_alpha.specs.Code.{luminance_entry}
-use Rattle.kernel_alpha.proofs.LuminanceByTable.{luminance-table-of}
 use Rattle.kernel_alpha.proofs.luminance.prepare.Given as goal
 
 abbrev pub invariant-loop-i : goal.invariant-loop-i

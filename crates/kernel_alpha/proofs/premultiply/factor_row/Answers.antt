@@ -1,10 +1,6 @@
 -- `kernel_alpha::premultiply::factor_row` meets its contract: one pixel more in each turn, by the law of a word of factors. Assumes nothing.
 use mathlib.Core.Path.{◌≡◌, refl, ap, ◌∙◌}
-use Prim.Native.Nat.{◌+◌, ◌-◌, ◌*◌, ◌≤◌}
-use lib.ListN.{get_or}
 use native.Mathlib.Omega.{arith}
-use borrow.Author.Rules.{rules}
-use Rattle.pixel.specs.Bytes.{Painted}
 use Rattle.kernel_alpha.specs.Code.{factors}
 use Rattle.pixel.proofs.PaintedRows.{painted-none, painted-more}
 use Rattle.kernel_alpha.proofs.PremultipliedRows.{word-factors}

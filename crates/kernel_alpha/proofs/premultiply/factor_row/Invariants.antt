@@ -1,12 +1,7 @@
-use mathlib.Core.Path.{◌≡◌, refl, ap, ◌∙◌}
-use Prim.Native.Nat.{◌+◌, ◌-◌, ◌*◌, ◌≤◌}
+use Prim.Native.Nat.{◌+◌, ◌*◌, ◌≤◌}
 use lib.ListN.{get_or}
-use native.Mathlib.Omega.{arith}
-use borrow.Author.Rules.{rules}
 use Rattle.pixel.specs.Bytes.{Painted}
 use Rattle.kernel_alpha.specs.Code.{factors}
-use Rattle.pixel.proofs.PaintedRows.{painted-none, painted-more}
-use Rattle.kernel_alpha.proofs.PremultipliedRows.{word-factors}
 use Rattle.kernel_alpha.proofs.premultiply.factor_row.Given as goal
 
 abbrev pub invariant-loop-x : goal.invariant-loop-x

@@ -1,5 +1,4 @@
 -- `kernel_alpha::premultiply::premultiply_row` meets its contract: the law of a row of factors. Assumes nothing.
-use borrow.Author.Rules.{rules}
 use Rattle.kernel_alpha.proofs.PremultipliedRows.{premultiplied-row}
 use Rattle.kernel_alpha.proofs.premultiply.premultiply_row.Goals as goal
 

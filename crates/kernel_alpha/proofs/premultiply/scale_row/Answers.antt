@@ -1,11 +1,10 @@
 -- `kernel_alpha::premultiply::scale_row` meets its contract: one store more in each turn; the byte read is still the old one. Assumes nothing.
 use mathlib.Core.Path.{◌≡◌, ◌∙◌, ap}
-use Prim.Native.Nat.{ℕ, ◌-◌, ◌≤◌, ◌<◌}
+use Prim.Native.Nat.{ℕ, ◌<◌}
 use lib.ListN.{length, get_or}
 use native.Mathlib.Omega.{arith}
 use borrow.Author.Rules.{rules}
 use Rattle.pixel.specs.Alpha.{premultiplied}
-use Rattle.window.specs.Store.{Filled}
 use Rattle.window.proofs.Store.{filled_none, filled_more}
 use Rattle.kernel_alpha.proofs.premultiply.scale_row.Goals as goal
 

@@ -1,11 +1,8 @@
-use mathlib.Core.Path.{◌≡◌, ◌∙◌, ap}
-use Prim.Native.Nat.{ℕ, ◌-◌, ◌≤◌, ◌<◌}
+use mathlib.Core.Path.{◌≡◌}
+use Prim.Native.Nat.{◌≤◌}
 use lib.ListN.{length, get_or}
-use native.Mathlib.Omega.{arith}
-use borrow.Author.Rules.{rules}
 use Rattle.pixel.specs.Alpha.{premultiplied}
 use Rattle.window.specs.Store.{Filled}
-use Rattle.window.proofs.Store.{filled_none, filled_more}
 use Rattle.kernel_alpha.proofs.premultiply.scale_row.Given as goal
 
 abbrev pub invariant-loop-i : goal.invariant-loop-i

@@ -1,7 +1,6 @@
 -- `kernel_alpha::store::alpha` meets its contract: the highest byte of a word. Assumes nothing.
 use Prim.Native.Nat.{◌+◌}
 use native.Mathlib.Omega.{arith}
-use borrow.Author.Rules.{rules}
 use Rattle.pixel.specs.Bytes.{pixel_at}
 use Rattle.pixel.proofs.PackedPixels.{packed-alpha}
 use Rattle.kernel_alpha.proofs.store.alpha.Goals as goal

@@ -1,6 +1,5 @@
 -- `kernel_alpha::store::put` meets its contract: the law of a pixel stored by four stores. Assumes nothing.
 use native.Mathlib.Omega.{arith}
-use borrow.Author.Rules.{rules}
 use lib.ListN.{length-set}
 use Rattle.pixel.proofs.PaintedRows.{painted-one}
 use Rattle.kernel_alpha.proofs.store.put.Goals as goal

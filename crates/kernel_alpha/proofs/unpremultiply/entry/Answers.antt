@@ -1,6 +1,5 @@
 -- `kernel_alpha::unpremultiply::entry` meets its contract: the test which half of the table it is. Assumes nothing.
 use borrow.Author.Tests.{lt-ltb, le-ltb}
-use borrow.Author.Rules.{rules}
 use Rattle.kernel_alpha.proofs.unpremultiply.entry.Goals as goal
 
 pub returns-then-i-lt256 : goal.returns-then-i-lt256

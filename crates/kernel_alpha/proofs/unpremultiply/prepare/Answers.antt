@@ -1,12 +1,9 @@
 -- `kernel_alpha::unpremultiply::prepare` meets its contract: one store more in each turn, and the entries as the record has them. Assumes nothing.
 use mathlib.Core.Path.{◌≡◌}
-use Prim.Native.Nat.{◌-◌, ◌≤◌, ◌<◌}
+use Prim.Native.Nat.{◌<◌}
 use lib.ListN.{length}
 use native.Mathlib.Omega.{arith}
-use borrow.Author.Rules.{rules}
-use Rattle.window.specs.Store.{Filled}
 use Rattle.window.proofs.Store.{filled_none, filled_more}
-use Rattle.kernel_alpha.specs.Code.{reciprocal}
 use Rattle.kernel_alpha.proofs.UnpremultiplyByProduct.{unpremultiply-table-of}
 use Rattle.kernel_alpha.proofs.unpremultiply.prepare.Goals as goal
 

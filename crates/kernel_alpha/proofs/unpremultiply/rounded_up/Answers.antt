@@ -1,6 +1,5 @@
 -- `kernel_alpha::unpremultiply::rounded_up` meets its contract: the test whether the divisor is 0. Assumes nothing.
 use borrow.Author.Tests.{eq-eqb, ne_eqb}
-use borrow.Author.Rules.{rules}
 use Rattle.kernel_alpha.proofs.unpremultiply.rounded_up.Goals as goal
 
 pub returns-then-a-eq0 : goal.returns-then-a-eq0

@@ -1,5 +1,4 @@
 -- `kernel_alpha::unpremultiply::straight_word` meets its contract: the three colours by the table, the alpha as it is. Assumes nothing.
-use borrow.Author.Rules.{rules}
 use Rattle.pixel.specs.Alpha.{straight}
 use Rattle.kernel_alpha.proofs.unpremultiply.straight_word.Goals as goal
 

@@ -4,7 +4,6 @@ use Prim.Native.Nat.{◌+◌, ◌*◌, ◌/◌, ◌≤◌}
 use native.Mathlib.Nat.{mul-le-mul}
 use lib.ListN.{get_or}
 use native.Mathlib.Omega.{arith}
-use borrow.Author.Rules.{rules}
 use Rattle.pixel.specs.Alpha.{unpremultiplied}
 use Rattle.pixel.proofs.Premultiplied.{unpremultiplied-byte}
 use Rattle.kernel_alpha.proofs.UnpremultiplyByProduct.{ceiling-le, unpremultiplied-by-product}

@@ -1,10 +1,8 @@
 -- `kernel_alpha::unpremultiply::unpremultiply_row` meets its contract: one pixel more in each turn; the pixel read is still the old one. Assumes nothing.
 use mathlib.Core.Path.{◌≡◌, ◌∙◌, ap}
-use Prim.Native.Nat.{◌+◌, ◌-◌, ◌*◌, ◌≤◌}
+use Prim.Native.Nat.{◌+◌, ◌*◌}
 use native.Mathlib.Omega.{arith}
-use borrow.Author.Rules.{rules}
 use Rattle.pixel.specs.Alpha.{straight}
-use Rattle.pixel.specs.Bytes.{pixel_at, Painted}
 use Rattle.pixel.proofs.PaintedRows.{pixel-same, painted-none, painted-more}
 use Rattle.kernel_alpha.proofs.unpremultiply.unpremultiply_row.Goals as goal
 

@@ -1,10 +1,6 @@
-use mathlib.Core.Path.{◌≡◌, ◌∙◌, ap}
-use Prim.Native.Nat.{◌+◌, ◌-◌, ◌*◌, ◌≤◌}
-use native.Mathlib.Omega.{arith}
-use borrow.Author.Rules.{rules}
+use Prim.Native.Nat.{◌*◌, ◌≤◌}
 use Rattle.pixel.specs.Alpha.{straight}
 use Rattle.pixel.specs.Bytes.{pixel_at, Painted}
-use Rattle.pixel.proofs.PaintedRows.{pixel-same, painted-none, painted-more}
 use Rattle.kernel_alpha.proofs.unpremultiply.unpremultiply_row.Given as goal
 
 abbrev pub invariant-loop-x : goal.invariant-loop-x

@@ -2,6 +2,7 @@
 use native.Mathlib.Omega.{arith}
 use borrow.Author.Rules.{rules}
 use Rattle.window.proofs.Numbers.{line-end}
+use Rattle.kernel_sums.proofs.PassColumns.{Bytes}
 use Rattle.kernel_blur.proofs.PassLines.{sum_lt, entered, left_le, edge-advanced}
 use Rattle.kernel_blur.proofs.pass.edge_line.Goals as goal
 
@@ -11,15 +12,17 @@ overflow_add-y c = omega (arith, c.requires.0.few, c.requires.0.limit)
 pub enter-requires : goal.enter-requires
 enter-requires c =
     let a = c.args in
+    let bytes : Bytes a.buf.now = search rules in
     let pre = c.requires in
-    record { n_in_bounds = (pre.0.source, pre.0.sums); by_index = sum_lt a.p a.buf.now a.sums.now a.y pre.0 pre.2 c.type_inv.buf }
+    record { n_in_bounds = (pre.0.source, pre.0.sums); by_index = sum_lt a.p a.buf.now a.sums.now a.y pre.0 pre.2 bytes }
 
 pub leave-requires : goal.leave-requires
 leave-requires c =
     let a = c.args in
+    let bytes : Bytes a.buf.now = search rules in
     let pre = c.requires in
     let E = c.enter.ensures in
-    record { n_in_bounds = (pre.0.source, omega (arith, E.long, pre.0.sums), pre.1); by_index = entered a.p a.buf.now a.sums.now a.y pre.0 pre.2 c.type_inv.buf _ E }
+    record { n_in_bounds = (pre.0.source, omega (arith, E.long, pre.0.sums), pre.1); by_index = entered a.p a.buf.now a.sums.now a.y pre.0 pre.2 bytes _ E }
 
 pub overflow_mul-y : goal.overflow_mul-y
 overflow_mul-y c =
@@ -34,13 +37,15 @@ overflow_add-p c =
 pub means-requires : goal.means-requires
 means-requires c =
     let a = c.args in
+    let bytes : Bytes a.buf.now = search rules in
     let pre = c.requires in
     let E = c.enter.ensures in
     let L = c.leave.ensures in
-    record { n_in_bounds = (omega (arith, line-end a.p.n a.p.count a.y pre.1, pre.0.target), omega (arith, E.long, L.long, pre.0.sums), pre.0.divides); by_index = left_le a.p a.buf.now a.sums.now a.y pre.0 pre.2 c.type_inv.buf _ E _ L }
+    record { n_in_bounds = (omega (arith, line-end a.p.n a.p.count a.y pre.1, pre.0.target), omega (arith, E.long, L.long, pre.0.sums), pre.0.divides); by_index = left_le a.p a.buf.now a.sums.now a.y pre.0 pre.2 bytes _ E _ L }
 
 pub returns : goal.returns
 returns c =
     let a = c.args in
+    let bytes : Bytes a.buf.now = search rules in
     let pre = c.requires in
-    edge-advanced a.p a.buf.now a.sums.now a.y pre.0 pre.2 c.type_inv.buf _ c.enter.ensures _ c.leave.ensures _ c.means.ensures
+    edge-advanced a.p a.buf.now a.sums.now a.y pre.0 pre.2 bytes _ c.enter.ensures _ c.leave.ensures _ c.means.ensures

@@ -6,6 +6,7 @@ use native.Mathlib.Omega.{arith}
 use borrow.Author.Rules.{rules}
 use Rattle.window.proofs.Numbers.{line-end}
 use Rattle.kernel_sums.proofs.LinesApart.{lines-apart}
+use Rattle.kernel_sums.proofs.PassColumns.{Bytes}
 use Rattle.kernel_blur.proofs.PassLines.{sum_lt, next_le, inner-slid, advanced-line}
 use Rattle.kernel_blur.proofs.pass.inner_line.Goals as goal
 
@@ -48,31 +49,32 @@ overflow_add-p c =
 pub slide_line-requires : goal.slide_line-requires
 slide_line-requires c =
     let a = c.args in
+    let bytes : Bytes a.buf.now = search rules in
     let p = a.p in
     let pre = c.requires in
     let R = pre.0 in
     let enters : a.y + p.ahead < p.count = pre.2 in
     let leaves : a.y - p.back - 1 < p.count = omega (arith, pre) in
-    let here : a.y < p.count = omega (arith, pre) in (
-      (
+    let here : a.y < p.count = omega (arith, pre) in
+    record {
+      n_in_bounds = (
         omega (arith, line-end p.n p.count (a.y + p.ahead) enters, R.source),
         omega (arith, line-end p.n p.count (a.y - p.back - 1) leaves, R.source),
         omega (arith, line-end p.n p.count a.y here, R.target),
         R.sums,
         R.divides,
-      ),
-      (
-        (lines-apart _ _ _ _ p.count _ _ refl R.apart enters here, lines-apart _ _ _ _ p.count _ _ refl R.apart leaves here),
-        λ i h.
-            let k = inner-slid p a.buf.now a.sums.now a.y R pre.3 c.type_inv.buf pre.1 enters i h in
-            (sum_lt p a.buf.now a.sums.now a.y R pre.3 c.type_inv.buf i h, k.0, omega (arith, k.1, next_le p a.buf.now a.sums.now a.y R pre.3 c.type_inv.buf i)),
-      ),
-    )
+      );
+      apart = (lines-apart _ _ _ _ p.count _ _ refl R.apart enters here, lines-apart _ _ _ _ p.count _ _ refl R.apart leaves here);
+      slides = λ i h.
+          let k = inner-slid p a.buf.now a.sums.now a.y R pre.3 bytes pre.1 enters i h in
+          (sum_lt p a.buf.now a.sums.now a.y R pre.3 bytes i h, k.0, omega (arith, k.1, next_le p a.buf.now a.sums.now a.y R pre.3 bytes i));
+    }
 
 pub returns : goal.returns
 returns c =
     let a = c.args in
+    let bytes : Bytes a.buf.now = search rules in
     let pre = c.requires in
     let enters : ℕ = a.p.from + (a.y + a.p.ahead) * a.p.n in
     let leaves : ℕ = a.p.from + (a.y - a.p.back - 1) * a.p.n in
-    advanced-line a.p a.buf.now a.sums.now a.y pre.0 pre.3 c.type_inv.buf _ _ (λ i. get_or a.sums.now i 0 + get_or a.buf.now (enters + i) 0 - get_or a.buf.now (leaves + i) 0) c.slide_line.ensures.filled (λ i h. (inner-slid a.p a.buf.now a.sums.now a.y pre.0 pre.3 c.type_inv.buf pre.1 pre.2 i h).1) c.slide_line.ensures.filled_2
+    advanced-line a.p a.buf.now a.sums.now a.y pre.0 pre.3 bytes _ _ (λ i. get_or a.sums.now i 0 + get_or a.buf.now (enters + i) 0 - get_or a.buf.now (leaves + i) 0) c.slide_line.ensures.filled (λ i h. (inner-slid a.p a.buf.now a.sums.now a.y pre.0 pre.3 bytes pre.1 pre.2 i h).1) c.slide_line.ensures.filled_2

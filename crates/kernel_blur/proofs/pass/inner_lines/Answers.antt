@@ -1,9 +1,7 @@
 -- `inner_lines` meets its contract, one line after another. Assumes nothing.
 use mathlib.Core.Path.{◌≡◌}
-use Prim.Native.Nat.{◌+◌, ◌-◌, ◌≤◌}
+use Prim.Native.Nat.{◌+◌}
 use native.Mathlib.Omega.{arith}
-use borrow.Author.Rules.{rules}
-use Rattle.kernel_blur.specs.PassAdvanced.{Advanced}
 use Rattle.kernel_blur.proofs.PassLines.{advanced-none, ready, present, advanced-then}
 use Rattle.kernel_blur.proofs.pass.inner_lines.Goals as goal
 

@@ -1,9 +1,5 @@
-use mathlib.Core.Path.{◌≡◌}
-use Prim.Native.Nat.{◌+◌, ◌-◌, ◌≤◌}
-use native.Mathlib.Omega.{arith}
-use borrow.Author.Rules.{rules}
+use Prim.Native.Nat.{◌≤◌}
 use Rattle.kernel_blur.specs.PassAdvanced.{Advanced}
-use Rattle.kernel_blur.proofs.PassLines.{advanced-none, ready, present, advanced-then}
 use Rattle.kernel_blur.proofs.pass.inner_lines.Given as goal
 
 abbrev pub invariant-loop-v : goal.invariant-loop-v

@@ -2,7 +2,6 @@
 use mathlib.Core.Path.{ap}
 use Prim.Native.Nat.{ℕ, ◌+◌, ◌-◌}
 use native.Mathlib.Omega.{arith}
-use borrow.Author.Rules.{rules}
 use lib.ListN.{get_or, length-set}
 use Rattle.kernel_blur.proofs.StridedRows.{four-stores}
 use Rattle.kernel_blur.proofs.rows.copy_pixel.Goals as goal

@@ -1,10 +1,8 @@
 -- `copy_row` meets its contract: as a pixel, or one byte after another. Assumes nothing.
 use mathlib.Core.Path.{◌≡◌, refl}
-use Prim.Native.Nat.{ℕ, ◌+◌, ◌-◌, ◌≤◌, ◌<◌}
+use Prim.Native.Nat.{◌+◌, ◌<◌}
 use native.Mathlib.Omega.{arith}
-use borrow.Author.Rules.{rules}
 use lib.ListN.{length, get_or}
-use Rattle.window.specs.Store.{Filled}
 use Rattle.kernel_sums.proofs.LinesApart.{line-none, line-more}
 use Rattle.kernel_blur.proofs.rows.copy_row.Goals as goal
 

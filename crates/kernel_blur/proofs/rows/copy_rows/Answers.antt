@@ -1,10 +1,6 @@
 -- `copy_rows` meets its contract, one row after another. Assumes nothing.
 use mathlib.Core.Path.{◌≡◌}
-use Prim.Native.Nat.{ℕ, ◌-◌, ◌≤◌}
 use native.Mathlib.Omega.{arith}
-use borrow.Author.Rules.{rules}
-use Rattle.window.specs.Store.{byte_at}
-use Rattle.kernel_blur.specs.StridedRows.{Rows}
 use Rattle.kernel_blur.proofs.StridedRows.{rows_none, rows_more}
 use Rattle.kernel_blur.proofs.rows.copy_rows.Goals as goal
 

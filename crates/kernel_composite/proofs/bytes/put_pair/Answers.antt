@@ -1,6 +1,5 @@
 -- `kernel_composite::bytes::put_pair` meets its contract. Assumes nothing.
 use native.Mathlib.Omega.{arith}
-use borrow.Author.Rules.{rules}
 use lib.ListN.{length-set}
 use Rattle.kernel_composite.proofs.bytes.put_pair.Goals as goal
 

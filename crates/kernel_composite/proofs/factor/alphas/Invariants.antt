@@ -1,12 +1,6 @@
-use mathlib.Core.Path.{◌≡◌, refl}
-use Prim.Native.Nat.{◌-◌, ◌/◌, ◌≤◌}
-use native.Mathlib.Omega.{arith}
-use borrow.Author.Rules.{rules}
+use Prim.Native.Nat.{◌≤◌}
 use Rattle.pixel.specs.Bytes.{Painted}
 use Rattle.kernel_composite.specs.Factors.{twice, alpha_in}
-use Rattle.pixel.proofs.PaintedRows.{painted-none}
-use Rattle.pixel.proofs.PackedPixels.{packed-alpha}
-use Rattle.kernel_composite.proofs.FactorWords.{factor-more}
 use Rattle.kernel_composite.proofs.factor.alphas.Given as goal
 
 abbrev pub invariant-loop-x : goal.invariant-loop-x

@@ -1,5 +1,4 @@
 -- `kernel_composite::factor::factor_rows` meets its contract: each arm stores the factors that its operator varies. Assumes nothing.
-use borrow.Author.Rules.{rules}
 use Rattle.kernel_composite.proofs.FactorRows.{over-rows, in_rows, out-rows, atop-rows, xor-rows}
 use Rattle.kernel_composite.proofs.factor.factor_rows.Goals as goal
 

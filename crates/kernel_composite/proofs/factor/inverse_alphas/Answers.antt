@@ -1,10 +1,7 @@
 -- `kernel_composite::factor::inverse_alphas` meets its contract: one more pixel's factor each turn. Assumes nothing.
 use mathlib.Core.Path.{◌≡◌, refl, ap}
-use Prim.Native.Nat.{ℕ, ◌-◌, ◌/◌, ◌≤◌}
+use Prim.Native.Nat.{ℕ, ◌-◌, ◌/◌}
 use native.Mathlib.Omega.{arith}
-use borrow.Author.Rules.{rules}
-use Rattle.pixel.specs.Bytes.{Painted}
-use Rattle.kernel_composite.specs.Factors.{twice, alpha_in}
 use Rattle.pixel.proofs.PaintedRows.{painted-none}
 use Rattle.pixel.proofs.PackedPixels.{packed-alpha}
 use Rattle.kernel_composite.proofs.FactorWords.{factor-more}

@@ -1,13 +1,9 @@
 -- `kernel_convolve::finish::alpha_row` meets its contract: one pixel more in each turn, by the law of a word of alphas. Assumes nothing.
 use mathlib.Core.Path.{◌≡◌, refl, ap, ◌∙◌}
-use Prim.Native.Nat.{ℕ, ◌+◌, ◌-◌, ◌*◌, ◌≤◌}
 use native.Mathlib.Omega.{arith}
-use lib.ListN.{get_or}
-use Rattle.pixel.specs.Bytes.{Painted}
 use Rattle.pixel.proofs.PaintedRows.{painted-none, painted-more}
 use Rattle.kernel_convolve.specs.Code.{lowest}
 use Rattle.kernel_convolve.proofs.FinishedRows.{word-lowest}
-use borrow.Author.Rules.{rules}
 use Rattle.kernel_convolve.proofs.finish.alpha_row.Goals as goal
 
 pub loop-x-init : goal.loop-x-init

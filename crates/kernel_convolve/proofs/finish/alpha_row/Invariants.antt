@@ -1,12 +1,7 @@
-use mathlib.Core.Path.{◌≡◌, refl, ap, ◌∙◌}
-use Prim.Native.Nat.{ℕ, ◌+◌, ◌-◌, ◌*◌, ◌≤◌}
-use native.Mathlib.Omega.{arith}
+use Prim.Native.Nat.{ℕ, ◌+◌, ◌*◌, ◌≤◌}
 use lib.ListN.{get_or}
 use Rattle.pixel.specs.Bytes.{Painted}
-use Rattle.pixel.proofs.PaintedRows.{painted-none, painted-more}
 use Rattle.kernel_convolve.specs.Code.{lowest}
-use Rattle.kernel_convolve.proofs.FinishedRows.{word-lowest}
-use borrow.Author.Rules.{rules}
 use Rattle.kernel_convolve.proofs.finish.alpha_row.Given as goal
 
 abbrev pub invariant-loop-x : goal.invariant-loop-x

@@ -1,7 +1,6 @@
 -- `kernel_convolve::finish::finish_row` meets its contract: two ways. Assumes nothing.
 use mathlib.Core.Path.{refl}
 use Rattle.kernel_convolve.proofs.FinishedRows.{kept_row, lowered-only}
-use borrow.Author.Rules.{rules}
 use Rattle.kernel_convolve.proofs.finish.finish_row.Goals as goal
 
 pub returns-then-convolution : goal.returns-then-convolution

@@ -1,9 +1,8 @@
 -- `kernel_convolve::finish::lesser_row` meets its contract: one store more in each turn; the byte read is still the old one. Assumes nothing.
 use mathlib.Core.Path.{◌≡◌, ap, ◌∙◌}
-use Prim.Native.Nat.{ℕ, ◌-◌, ◌≤◌, ◌<◌, min}
+use Prim.Native.Nat.{ℕ, ◌<◌, min}
 use native.Mathlib.Omega.{arith}
 use lib.ListN.{length, get_or}
-use Rattle.window.specs.Store.{Filled}
 use Rattle.window.proofs.Store.{filled_none, filled_more}
 use borrow.Author.Rules.{rules}
 use Rattle.kernel_convolve.proofs.finish.lesser_row.Goals as goal

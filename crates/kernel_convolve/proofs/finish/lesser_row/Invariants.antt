@@ -1,10 +1,7 @@
-use mathlib.Core.Path.{◌≡◌, ap, ◌∙◌}
-use Prim.Native.Nat.{ℕ, ◌-◌, ◌≤◌, ◌<◌, min}
-use native.Mathlib.Omega.{arith}
+use mathlib.Core.Path.{◌≡◌}
+use Prim.Native.Nat.{ℕ, ◌≤◌, min}
 use lib.ListN.{length, get_or}
 use Rattle.window.specs.Store.{Filled}
-use Rattle.window.proofs.Store.{filled_none, filled_more}
-use borrow.Author.Rules.{rules}
 use Rattle.kernel_convolve.proofs.finish.lesser_row.Given as goal
 
 abbrev pub invariant-loop-i : goal.invariant-loop-i

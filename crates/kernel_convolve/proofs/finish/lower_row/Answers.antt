@@ -1,6 +1,5 @@
 -- `kernel_convolve::finish::lower_row` meets its contract: the law of a row of alphas. Assumes nothing.
 use Rattle.kernel_convolve.proofs.FinishedRows.{lowered-row}
-use borrow.Author.Rules.{rules}
 use Rattle.kernel_convolve.proofs.finish.lower_row.Goals as goal
 
 pub returns : goal.returns

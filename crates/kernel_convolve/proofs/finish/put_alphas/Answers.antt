@@ -1,13 +1,12 @@
 -- `kernel_convolve::finish::put_alphas` meets its contract: one alpha more in each turn; the colours are still the old ones. Assumes nothing.
 use mathlib.Core.Path.{◌≡◌, ap}
-use Prim.Native.Nat.{ℕ, ◌+◌, ◌-◌, ◌*◌, ◌≤◌}
+use Prim.Native.Nat.{ℕ, ◌+◌, ◌*◌, ◌≤◌}
 use native.Mathlib.Omega.{arith}
 use lib.ListN.{length, get_or}
-use Rattle.pixel.specs.Bytes.{pixel_at, Painted}
+use Rattle.pixel.specs.Bytes.{pixel_at}
 use Rattle.pixel.proofs.PaintedRows.{pixel-same, painted-none, painted-more}
 use Rattle.kernel_convolve.specs.Code.{with_alpha}
 use Rattle.kernel_convolve.proofs.FinishedRows.{painted-alpha}
-use borrow.Author.Rules.{rules}
 use Rattle.kernel_convolve.proofs.finish.put_alphas.Goals as goal
 
 pub loop-x-init : goal.loop-x-init

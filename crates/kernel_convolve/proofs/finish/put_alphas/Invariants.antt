@@ -1,12 +1,7 @@
-use mathlib.Core.Path.{◌≡◌, ap}
-use Prim.Native.Nat.{ℕ, ◌+◌, ◌-◌, ◌*◌, ◌≤◌}
-use native.Mathlib.Omega.{arith}
-use lib.ListN.{length, get_or}
+use Prim.Native.Nat.{ℕ, ◌+◌, ◌*◌, ◌≤◌}
+use lib.ListN.{get_or}
 use Rattle.pixel.specs.Bytes.{pixel_at, Painted}
-use Rattle.pixel.proofs.PaintedRows.{pixel-same, painted-none, painted-more}
 use Rattle.kernel_convolve.specs.Code.{with_alpha}
-use Rattle.kernel_convolve.proofs.FinishedRows.{painted-alpha}
-use borrow.Author.Rules.{rules}
 use Rattle.kernel_convolve.proofs.finish.put_alphas.Given as goal
 
 abbrev pub invariant-loop-x : goal.invariant-loop-x

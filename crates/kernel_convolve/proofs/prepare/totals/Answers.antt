@@ -1,11 +1,9 @@
 -- `kernel_convolve::prepare::totals` meets its contract: one value more in each turn. Assumes nothing.
 use mathlib.Core.Path.{◌≡◌, ap, sym, ◌∙◌}
-use Prim.Native.Nat.{ℕ, ◌+◌, ◌-◌, ◌*◌, ◌≤◌}
+use Prim.Native.Nat.{ℕ, ◌+◌}
 use native.Mathlib.Omega.{arith}
 use Rattle.kernel_lines.specs.Convolved.{value_at}
-use Rattle.kernel_convolve.specs.Code.{total}
 use Rattle.kernel_convolve.proofs.Totals.{total-none, total-more}
-use borrow.Author.Rules.{rules}
 use Rattle.kernel_convolve.proofs.prepare.totals.Goals as goal
 
 pub loop-i-init : goal.loop-i-init

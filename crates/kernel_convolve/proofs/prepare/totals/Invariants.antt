@@ -1,10 +1,7 @@
-use mathlib.Core.Path.{◌≡◌, ap, sym, ◌∙◌}
-use Prim.Native.Nat.{ℕ, ◌+◌, ◌-◌, ◌*◌, ◌≤◌}
-use native.Mathlib.Omega.{arith}
+use mathlib.Core.Path.{◌≡◌}
+use Prim.Native.Nat.{ℕ, ◌*◌, ◌≤◌}
 use Rattle.kernel_lines.specs.Convolved.{value_at}
 use Rattle.kernel_convolve.specs.Code.{total}
-use Rattle.kernel_convolve.proofs.Totals.{total-none, total-more}
-use borrow.Author.Rules.{rules}
 use Rattle.kernel_convolve.proofs.prepare.totals.Given as goal
 
 abbrev pub invariant-loop-i : goal.invariant-loop-i

@@ -2,12 +2,6 @@
 use Prim.Native.Nat.{ℕ, ◌*◌, ◌/◌, min}
 use mathlib.Core.Path.{ap, ◌∙◌}
 use Rattle.kernel_convolve.proofs.QuotientByProduct.{limited-first}
-use borrow.Author.Rules.{rules}
-use Rattle.kernel_convolve.proofs.sum.divided.Reads as reads
-use Rattle.kernel_convolve.proofs.sum.divided.Lts as lts
-use Rattle.kernel_convolve.proofs.sum.least.Reads as least-reads
-use Rattle.kernel_convolve.proofs.sum.less.Reads as less-reads
-use Rattle.kernel_convolve.proofs.sum.quotient.Reads as quotient-reads
 use Rattle.kernel_convolve.proofs.sum.divided.Goals as goal
 
 pub returns : goal.returns

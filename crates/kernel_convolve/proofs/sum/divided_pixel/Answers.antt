@@ -3,12 +3,6 @@ use mathlib.Core.Path.{◌≡◌, ap₂, ◌∙◌}
 use Prim.Native.Nat.{ℕ, ◌+◌, ◌-◌, ◌/◌, min}
 use Rattle.kernel_convolve.specs.Code.{planned_byte}
 use Rattle.pixel.proofs.PaintedRows.{pixel-is}
-use borrow.Author.Rules.{rules}
-use Rattle.kernel_convolve.proofs.sum.divided_pixel.Reads as reads
-use Rattle.kernel_convolve.proofs.sum.divided_pixel.Lts as lts
-use Rattle.kernel_convolve.proofs.sum.divided.Reads as divided-reads
-use Rattle.kernel_convolve.proofs.sum.lift_over.Reads as lift-over-reads
-use Rattle.kernel_convolve.proofs.sum.lift_under.Reads as lift-under-reads
 use Rattle.kernel_convolve.proofs.sum.divided_pixel.Goals as goal
 
 pub returns : goal.returns

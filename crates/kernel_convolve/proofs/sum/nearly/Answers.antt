@@ -1,8 +1,6 @@
 -- `kernel_convolve::sum::nearly` meets its contract. Assumes nothing.
 use native.Mathlib.Omega.{arith}
 use Rattle.kernel_convolve.proofs.QuotientByProduct.{product-fits, nearly-low, nearly-high, nearly-byte}
-use Rattle.kernel_convolve.proofs.sum.nearly.Reads as reads
-use Rattle.kernel_convolve.proofs.sum.nearly.Lts as lts
 use Rattle.kernel_convolve.proofs.sum.nearly.Goals as goal
 
 pub overflow_mul-result : goal.overflow_mul-result

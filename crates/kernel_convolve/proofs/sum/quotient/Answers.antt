@@ -3,10 +3,6 @@ use Prim.Native.Nat.{◌+◌}
 use native.Mathlib.Nat.{add-mul}
 use native.Mathlib.Omega.{arith}
 use Rattle.kernel_convolve.proofs.QuotientByProduct.{next-byte, quotient_is}
-use borrow.Author.Rules.{rules}
-use Rattle.kernel_convolve.proofs.sum.quotient.Reads as reads
-use Rattle.kernel_convolve.proofs.sum.quotient.Lts as lts
-use Rattle.kernel_convolve.proofs.sum.nearly.Reads as nearly-reads
 use Rattle.kernel_convolve.proofs.sum.quotient.Goals as goal
 
 pub overflow_cast-result : goal.overflow_cast-result

@@ -3,7 +3,6 @@ use mathlib.Core.Path.{◌∙◌}
 use native.Mathlib.Omega.{arith}
 use Rattle.pixel.proofs.PaintedRows.{painted-as}
 use Rattle.kernel_convolve.proofs.PlannedRows.{summed-small, planned-pixel}
-use borrow.Author.Rules.{rules}
 use Rattle.kernel_convolve.proofs.sum.sum_pixel.Goals as goal
 
 pub overflow_add-own : goal.overflow_add-own

@@ -1,11 +1,7 @@
 -- `kernel_convolve::sum::sum_pixels` meets its contract: one pixel more in each turn. Assumes nothing.
 use mathlib.Core.Path.{◌≡◌, refl}
-use Prim.Native.Nat.{ℕ, ◌+◌, ◌-◌, ◌*◌, ◌≤◌}
 use native.Mathlib.Omega.{arith}
-use Rattle.pixel.specs.Bytes.{Painted}
 use Rattle.pixel.proofs.PaintedRows.{painted-none, painted-more}
-use Rattle.kernel_convolve.specs.Code.{planned_pixel}
-use borrow.Author.Rules.{rules}
 use Rattle.kernel_convolve.proofs.sum.sum_pixels.Goals as goal
 
 pub loop-x-init : goal.loop-x-init

@@ -1,10 +1,6 @@
-use mathlib.Core.Path.{◌≡◌, refl}
-use Prim.Native.Nat.{ℕ, ◌+◌, ◌-◌, ◌*◌, ◌≤◌}
-use native.Mathlib.Omega.{arith}
+use Prim.Native.Nat.{ℕ, ◌+◌, ◌*◌, ◌≤◌}
 use Rattle.pixel.specs.Bytes.{Painted}
-use Rattle.pixel.proofs.PaintedRows.{painted-none, painted-more}
 use Rattle.kernel_convolve.specs.Code.{planned_pixel}
-use borrow.Author.Rules.{rules}
 use Rattle.kernel_convolve.proofs.sum.sum_pixels.Given as goal
 
 abbrev pub invariant-loop-x : goal.invariant-loop-x

@@ -2,14 +2,6 @@
 use mathlib.Core.Path.{refl, ◌∙◌}
 use native.Mathlib.Omega.{arith}
 use Rattle.kernel_convolve.proofs.SummedRows.{distance, summed-row}
-use borrow.Author.Rules.{rules}
-use Rattle.kernel_convolve.proofs.sum.sum_row.Reads as reads
-use Rattle.kernel_convolve.proofs.sum.sum_row.Lts as lts
-use Rattle.kernel_convolve.proofs.prepare.bias_of.Reads as bias-of-reads
-use Rattle.kernel_convolve.proofs.prepare.divisor_of.Reads as divisor-of-reads
-use Rattle.kernel_convolve.proofs.prepare.gather.Reads as gather-reads
-use Rattle.kernel_convolve.proofs.sum.apart.Reads as apart-reads
-use Rattle.kernel_convolve.proofs.sum.sum_pixels.Reads as sum-pixels-reads
 use Rattle.kernel_convolve.proofs.sum.sum_row.Goals as goal
 
 pub overflow_mul-p-2 : goal.overflow_mul-p-2
@@ -27,7 +19,7 @@ sum_pixels-requires c =
     record {
       planned = (
         record {
-          c = c.bias_of.ensures.1;
+          bias = c.bias_of.ensures.1;
           divides = omega (arith, c.apart-d.ensures.0, far);
           small = c.apart-d.ensures.1;
           inverse = refl;
@@ -44,10 +36,3 @@ returns c =
     let s = c.args in
     summed-row s.convolution s.values c.divisor_of-divisor.result _ _ _ _ _ _ c.divisor_of-divisor.ensures.0 c.apart-d.ensures.0
     c.bias_of.ensures.0 refl c.gather.ensures c.gather-2.ensures s.left s.count _ _ c.sum_pixels.ensures
-
--- no goal: div-t27 : tie.Need-nonzero-div-t27
--- div-t27 c =
---     let apart = c.before.before.before.before.before.before.before.before.before.before.before in
---     let divisor = c.before.before.before.before.before.before.before.before.before.before.before.before.before in
---     let s = c.before.before.before.before.before.before.before.before.before.before.before.before.before.before.before.before in
---     omega (arith, apart.apart.ensures.0, distance divisor.divisor-of.result (λ e. s.requires.0.divides (divisor.divisor-of.ensures.0 ∙ e)))

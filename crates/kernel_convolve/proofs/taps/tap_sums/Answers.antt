@@ -1,9 +1,7 @@
 -- `kernel_convolve::taps::tap_sums` meets its contract: one tap more in each turn. Assumes nothing.
 use mathlib.Core.Path.{◌≡◌}
-use Prim.Native.Nat.{◌-◌, ◌≤◌, ◌<◌}
+use Prim.Native.Nat.{◌<◌}
 use native.Mathlib.Omega.{arith}
-use borrow.Author.Rules.{rules}
-use Rattle.kernel_convolve.specs.Code.{Summed}
 use Rattle.kernel_convolve.proofs.PlannedRows.{summed-none, summed-more}
 use Rattle.kernel_convolve.proofs.taps.tap_sums.Goals as goal
 

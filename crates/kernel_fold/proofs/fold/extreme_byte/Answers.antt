@@ -1,5 +1,4 @@
 -- `kernel_fold::fold::extreme_byte` meets its contract: by the two variants. Assumes nothing.
-use borrow.Author.Rules.{rules}
 use Rattle.kernel_fold.specs.Operation.{operation}
 use Rattle.kernel_fold.proofs.fold.extreme_byte.Goals as goal
 

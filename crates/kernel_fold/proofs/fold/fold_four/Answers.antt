@@ -1,9 +1,7 @@
 -- `kernel_fold::fold::fold_four` meets its contract: each turn stores one byte more of the fold. Assumes nothing.
-use Prim.Native.Nat.{◌+◌, ◌-◌, ◌≤◌}
 use mathlib.Core.Path.{◌≡◌}
 use native.Mathlib.Omega.{arith}
-use Rattle.window.specs.Store.{Filled}
-use Rattle.kernel_fold.specs.Operation.{operation, folded_four}
+use Rattle.kernel_fold.specs.Operation.{operation}
 use Rattle.kernel_fold.proofs.FoldedRanges.{filled-start, four-more}
 use Rattle.kernel_fold.proofs.fold.fold_four.Goals as goal
 

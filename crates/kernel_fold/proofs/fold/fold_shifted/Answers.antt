@@ -1,10 +1,7 @@
 -- `kernel_fold::fold::fold_shifted` meets its contract: each turn stores one byte more of the fold. Assumes nothing.
-use Prim.Native.Nat.{◌+◌, ◌-◌, ◌≤◌}
 use mathlib.Core.Path.{◌≡◌}
 use native.Mathlib.Omega.{arith}
-use borrow.Author.Rules.{rules}
-use Rattle.window.specs.Store.{Filled}
-use Rattle.kernel_fold.specs.Operation.{operation, folded_shifted}
+use Rattle.kernel_fold.specs.Operation.{operation}
 use Rattle.kernel_fold.proofs.FoldedRanges.{filled-start, shifted-more}
 use Rattle.kernel_fold.proofs.fold.fold_shifted.Goals as goal
 

@@ -1,10 +1,6 @@
-use Prim.Native.Nat.{◌+◌, ◌-◌, ◌≤◌}
-use mathlib.Core.Path.{◌≡◌}
-use native.Mathlib.Omega.{arith}
-use borrow.Author.Rules.{rules}
+use Prim.Native.Nat.{◌+◌, ◌≤◌}
 use Rattle.window.specs.Store.{Filled}
 use Rattle.kernel_fold.specs.Operation.{operation, folded_shifted}
-use Rattle.kernel_fold.proofs.FoldedRanges.{filled-start, shifted-more}
 use Rattle.kernel_fold.proofs.fold.fold_shifted.Given as goal
 
 abbrev pub invariant-loop-i : goal.invariant-loop-i

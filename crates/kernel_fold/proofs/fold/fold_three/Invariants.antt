@@ -1,9 +1,6 @@
-use Prim.Native.Nat.{◌+◌, ◌-◌, ◌≤◌}
-use mathlib.Core.Path.{◌≡◌}
-use native.Mathlib.Omega.{arith}
+use Prim.Native.Nat.{◌+◌, ◌≤◌}
 use Rattle.window.specs.Store.{Filled}
 use Rattle.kernel_fold.specs.Operation.{operation, folded_three}
-use Rattle.kernel_fold.proofs.FoldedRanges.{filled-start, three-more}
 use Rattle.kernel_fold.proofs.fold.fold_three.Given as goal
 
 abbrev pub invariant-loop-i : goal.invariant-loop-i

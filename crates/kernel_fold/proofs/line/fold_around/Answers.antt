@@ -1,10 +1,9 @@
 -- `kernel_fold::line::fold_around` meets its contract: the lines in three runs, the middle one a fold of three. Assumes nothing.
-use Prim.Native.Nat.{ℕ, ◌+◌, ◌*◌, ◌≤◌}
+use Prim.Native.Nat.{◌+◌, ◌*◌, ◌≤◌}
 use mathlib.Core.Path.{◌∙◌}
 use mathlib.Core.Logic.{inl, inr, ⊎_elim}
 use native.Mathlib.Omega.{arith}
 use native.Mathlib.Nat.{mul-le-mul_right}
-use borrow.Author.Rules.{rules}
 use Rattle.kernel_fold.specs.Operation.{operation}
 use Rattle.kernel_fold.proofs.Semilattices.{lattice}
 use Rattle.kernel_fold.proofs.LineRuns.{around-runs}

@@ -3,7 +3,6 @@
 use Prim.Native.Nat.{ℕ, ◌+◌, ◌*◌, ◌≤◌}
 use mathlib.Core.Path.{◌≡◌}
 use native.Mathlib.Omega.{arith}
-use borrow.Author.Rules.{rules}
 use Rattle.kernel_fold.specs.Operation.{operation}
 use Rattle.kernel_fold.specs.Ranges.{Foldable}
 use Rattle.kernel_fold.proofs.FoldedTwice.{line-readable, line-twice}
@@ -17,7 +16,7 @@ fold_four-requires c =
     let low : a.to ≤ c.line_at.result = omega (arith, at.0) in
     let reads : (k r : ℕ) → (r ≡ a.from + k * a.n) × (r + a.n ≤ a.from + a.count * a.n) → Foldable r c.line_at.result a.n a.buf.now
     = (λ k r h. line-readable a.from a.to (a.count * a.n) a.n r c.line_at.result a.buf.now (omega (arith, h.0)) h.1 p.0 low at.1 p.2) in (
-      reads _ _ c.line_at_lem.ensures,
+      reads _ _ c.line_at-a.ensures,
       reads _ _ c.line_at-b.ensures,
       reads _ _ c.line_at-c.ensures,
       reads _ _ c.line_at-d.ensures,
@@ -33,7 +32,7 @@ returns c =
     c.later_line.ensures.0
     c.earlier_line-2.ensures.0
     c.later_line-2.ensures.0
-    c.line_at_lem.ensures.0
+    c.line_at-a.ensures.0
     c.line_at-b.ensures.0
     c.line_at-c.ensures.0
     c.line_at-d.ensures.0

@@ -4,7 +4,6 @@ use mathlib.Core.Path.{◌∙◌}
 use mathlib.Core.Logic.{inl, inr, ⊎_elim}
 use native.Mathlib.Omega.{arith}
 use native.Mathlib.Nat.{mul-le-mul_right}
-use borrow.Author.Rules.{rules}
 use Rattle.kernel_fold.specs.Operation.{operation}
 use Rattle.kernel_fold.proofs.LineRuns.{three-runs}
 use Rattle.kernel_fold.proofs.line.fold_lines.Goals as goal

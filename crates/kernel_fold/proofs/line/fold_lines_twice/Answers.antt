@@ -1,10 +1,7 @@
 -- `kernel_fold::line::fold_lines_twice` meets its contract: each turn stores one line more. Assumes nothing.
-use Prim.Native.Nat.{◌-◌, ◌≤◌}
 use mathlib.Core.Path.{◌≡◌}
 use native.Mathlib.Omega.{arith}
-use Rattle.window.specs.Store.{Lined}
 use Rattle.kernel_fold.specs.Operation.{operation}
-use Rattle.kernel_fold.specs.Lines.{paired_twice}
 use Rattle.kernel_fold.proofs.LineRuns.{lined-none}
 use Rattle.kernel_fold.proofs.FoldedTwice.{twice-more}
 use Rattle.kernel_fold.proofs.line.fold_lines_twice.Goals as goal

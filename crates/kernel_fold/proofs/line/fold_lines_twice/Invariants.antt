@@ -1,11 +1,7 @@
-use Prim.Native.Nat.{◌-◌, ◌≤◌}
-use mathlib.Core.Path.{◌≡◌}
-use native.Mathlib.Omega.{arith}
+use Prim.Native.Nat.{◌≤◌}
 use Rattle.window.specs.Store.{Lined}
 use Rattle.kernel_fold.specs.Operation.{operation}
 use Rattle.kernel_fold.specs.Lines.{paired_twice}
-use Rattle.kernel_fold.proofs.LineRuns.{lined-none}
-use Rattle.kernel_fold.proofs.FoldedTwice.{twice-more}
 use Rattle.kernel_fold.proofs.line.fold_lines_twice.Given as goal
 
 abbrev pub invariant-loop-v : goal.invariant-loop-v

@@ -1,7 +1,6 @@
 -- `kernel_fold::line::later_line` meets its contract. Assumes nothing.
 use Prim.Native.Nat.{◌+◌, ◌≤◌, ◌<◌}
 use native.Mathlib.Omega.{arith}
-use borrow.Author.Rules.{rules}
 use borrow.Author.Tests.{lt-ltb, le-ltb}
 use Rattle.kernel_fold.specs.Lines.{later}
 use Rattle.kernel_fold.proofs.line.later_line.Goals as goal

@@ -3,7 +3,6 @@ use mathlib.Core.Path.{◌∙◌}
 use Prim.Native.Nat.{◌+◌, ◌*◌, ◌≤◌}
 use lib.ListN.{get_or}
 use native.Mathlib.Omega.{arith}
-use borrow.Author.Rules.{rules}
 use Rattle.kernel_matrix.proofs.BiasedProducts.{red-le, green-le, blue-le, alpha-le, sum-law}
 use Rattle.kernel_matrix.proofs.matrix.channel.Goals as goal
 

@@ -1,11 +1,7 @@
 -- `kernel_matrix::matrix::channels_row` meets its contract: one pixel more in each turn. Assumes nothing.
 use mathlib.Core.Path.{◌≡◌, refl}
-use Prim.Native.Nat.{◌-◌, ◌*◌, ◌≤◌}
 use native.Mathlib.Omega.{arith}
-use borrow.Author.Rules.{rules}
-use Rattle.pixel.specs.Bytes.{pixel_at, Painted}
 use Rattle.pixel.proofs.PaintedRows.{painted-none, painted-more}
-use Rattle.kernel_matrix.specs.Code.{by_rows}
 use Rattle.kernel_matrix.proofs.matrix.channels_row.Goals as goal
 
 pub loop-x-init : goal.loop-x-init

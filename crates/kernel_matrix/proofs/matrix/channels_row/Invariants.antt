@@ -1,9 +1,5 @@
-use mathlib.Core.Path.{◌≡◌, refl}
-use Prim.Native.Nat.{◌-◌, ◌*◌, ◌≤◌}
-use native.Mathlib.Omega.{arith}
-use borrow.Author.Rules.{rules}
+use Prim.Native.Nat.{◌*◌, ◌≤◌}
 use Rattle.pixel.specs.Bytes.{pixel_at, Painted}
-use Rattle.pixel.proofs.PaintedRows.{painted-none, painted-more}
 use Rattle.kernel_matrix.specs.Code.{by_rows}
 use Rattle.kernel_matrix.proofs.matrix.channels_row.Given as goal
 

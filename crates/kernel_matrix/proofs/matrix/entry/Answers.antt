@@ -2,7 +2,6 @@
 use mathlib.Core.Path.{ap, ap₂, ◌∙◌}
 use Prim.Native.Nat.{ℕ, ◌+◌, ◌/◌, ◌%◌}
 use borrow.Author.Tests.{lt-ltb, le-ltb}
-use borrow.Author.Rules.{rules}
 use Rattle.pixel.specs.declared.MatrixRow.{MatrixRow}
 use Rattle.kernel_matrix.specs.Tables.{biased}
 use Rattle.kernel_matrix.proofs.matrix.entry.Goals as goal

@@ -1,5 +1,4 @@
 -- `kernel_matrix::matrix::matrix_row` meets its contract: the new channels, and then their colours premultiplied. Assumes nothing.
-use borrow.Author.Rules.{rules}
 use Rattle.kernel_matrix.proofs.MatrixRows.{by-matrix-row}
 use Rattle.kernel_matrix.proofs.matrix.matrix_row.Goals as goal
 

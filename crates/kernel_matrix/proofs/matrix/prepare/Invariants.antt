@@ -1,12 +1,6 @@
-use mathlib.Core.Path.{◌≡◌}
-use Prim.Native.Nat.{◌-◌, ◌≤◌, ◌<◌}
-use lib.ListN.{length}
-use native.Mathlib.Omega.{arith}
-use borrow.Author.Rules.{rules}
+use Prim.Native.Nat.{◌≤◌}
 use Rattle.window.specs.Store.{Filled}
-use Rattle.window.proofs.Store.{filled_none, filled_more}
 use Rattle.kernel_matrix.specs.Code.{product}
-use Rattle.kernel_matrix.proofs.BiasedProducts.{matrix-table-of}
 use Rattle.kernel_matrix.proofs.matrix.prepare.Given as goal
 
 abbrev pub invariant-loop-i : goal.invariant-loop-i

@@ -1,9 +1,6 @@
 -- `kernel_morph::edge::clear` meets its contract: each turn stores one zero more. Assumes nothing.
-use Prim.Native.Nat.{◌-◌, ◌≤◌}
 use mathlib.Core.Path.{◌≡◌, refl}
 use native.Mathlib.Omega.{arith}
-use borrow.Author.Rules.{rules}
-use Rattle.window.specs.Store.{Filled}
 use Rattle.window.proofs.Store.{filled_none, filled_more}
 use Rattle.kernel_morph.proofs.edge.clear.Goals as goal
 

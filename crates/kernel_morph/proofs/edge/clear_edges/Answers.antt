@@ -2,7 +2,6 @@
 use Prim.Native.Nat.{◌*◌, ◌≤◌}
 use native.Mathlib.Omega.{arith}
 use native.Mathlib.Nat.{mul-le-mul_right}
-use borrow.Author.Rules.{rules}
 use Rattle.kernel_morph.proofs.PingPongGrowth.{cleared}
 use Rattle.kernel_morph.proofs.edge.clear_edges.Goals as goal
 
@@ -28,8 +27,9 @@ clear-requires c =
 
 pub overflow_sub-end : goal.overflow_sub-end
 overflow_sub-end c =
+    let first-in : c.lesser.result * c.args.n ≤ c.args.count * c.args.n = mul-le-mul_right c.args.n (omega (arith, c.lesser.ensures)) in
     let last-in : c.lesser-2.result * c.args.n ≤ c.args.count * c.args.n = mul-le-mul_right c.args.n (omega (arith, c.lesser-2.ensures)) in
-    omega (arith, last-in)
+    omega (arith, first-in, last-in)
 
 pub clear-requires-2 : goal.clear-requires-2
 clear-requires-2 c = (omega arith, omega (arith, c.clear.ensures.long))

@@ -1,5 +1,4 @@
 -- `kernel_morph::edge::finish_edges` meets its contract: by the two variants. Assumes nothing.
-use borrow.Author.Rules.{rules}
 use Rattle.kernel_morph.proofs.PingPongGrowth.{stayed}
 use Rattle.kernel_morph.proofs.edge.finish_edges.Goals as goal
 

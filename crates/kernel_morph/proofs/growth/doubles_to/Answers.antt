@@ -1,5 +1,4 @@
 -- `kernel_morph::growth::doubles_to` meets its contract: k is never 0. Assumes nothing.
-use Prim.Native.Nat.{◌-◌, ◌<◌, ◌≤◌}
 use mathlib.Core.Path.{◌≡◌}
 use native.Mathlib.Omega.{arith}
 use borrow.Author.Tests.{eqb-true}

@@ -1,7 +1,4 @@
 use Prim.Native.Nat.{◌-◌, ◌<◌, ◌≤◌}
-use mathlib.Core.Path.{◌≡◌}
-use native.Mathlib.Omega.{arith}
-use borrow.Author.Tests.{eqb-true}
 use Rattle.kernel_morph.proofs.growth.doubles_to.Given as goal
 
 abbrev pub invariant-loop-k : goal.invariant-loop-k

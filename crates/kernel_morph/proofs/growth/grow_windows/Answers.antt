@@ -1,26 +1,10 @@
 -- `kernel_morph::growth::grow_windows` meets its contract: the lines at `here` hold windows that reach p back and q ahead, and each turn makes
 -- them longer. Assumes nothing.
 use mathlib.Core.Path.{◌≡◌, refl}
-use mathlib.Core.List.{List}
-use mathlib.Core.Logic.{◌⊎◌, inl, inr, ⊎_elim}
-use Prim.Native.Nat.{ℕ, ◌+◌, ◌*◌, ◌-◌, ◌≤◌}
+use mathlib.Core.Logic.{inl, inr, ⊎_elim}
 use native.Mathlib.Omega.{arith}
-use lib.ListN.{length}
-use Rattle.kernel_fold.specs.declared.Extreme.{Extreme}
-use Rattle.window.specs.Ranges.{Apart}
-use Rattle.kernel_morph.specs.PingPong.{PingPong}
-use Rattle.kernel_morph.specs.Growth.{windows}
 use Rattle.kernel_morph.proofs.PingPongGrowth.{pingpong-start, pingpong-widen, pingpong-place}
 use Rattle.kernel_morph.proofs.growth.grow_windows.Goals as goal
-
-record Standing (op : Extreme) (a b n count back ahead here there p q : ℕ) (buf₀ buf : List ℕ) : Type 0 where
-  lines : PingPong (windows op buf₀ a n count p q) here there n count here buf₀ buf
-  place : ((here ≡ a) × (there ≡ b)) ⊎ ((here ≡ b) × (there ≡ a))
-  low : p ≤ back
-  high : q ≤ ahead
-  room-here : here + count * n ≤ length buf₀
-  room-there : there + count * n ≤ length buf₀
-  apart : Apart here (count * n) there (count * n)
 
 pub loop-p-init : goal.loop-p-init
 loop-p-init c = record {

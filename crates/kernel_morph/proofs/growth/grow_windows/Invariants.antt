@@ -1,14 +1,5 @@
-use mathlib.Core.Path.{◌≡◌, refl}
-use mathlib.Core.List.{List}
-use mathlib.Core.Logic.{◌⊎◌, inl, inr, ⊎_elim}
-use Prim.Native.Nat.{ℕ, ◌+◌, ◌*◌, ◌-◌, ◌≤◌}
-use native.Mathlib.Omega.{arith}
-use lib.ListN.{length}
-use Rattle.kernel_fold.specs.declared.Extreme.{Extreme}
-use Rattle.window.specs.Ranges.{Apart}
-use Rattle.kernel_morph.specs.PingPong.{PingPong}
-use Rattle.kernel_morph.specs.Growth.{windows}
-use Rattle.kernel_morph.proofs.PingPongGrowth.{pingpong-start, pingpong-widen, pingpong-place}
+use Prim.Native.Nat.{◌+◌, ◌-◌}
+use Rattle.kernel_morph.proofs.PingPongGrowth.{Standing}
 use Rattle.kernel_morph.proofs.growth.grow_windows.Given as goal
 
 abbrev pub invariant-loop-p : goal.invariant-loop-p

@@ -1,7 +1,6 @@
 -- `kernel_morph::growth::stretch` meets its contract, by the law of one step. Assumes nothing.
 use Prim.Native.Nat.{◌+◌}
 use native.Mathlib.Omega.{arith}
-use borrow.Author.Rules.{rules}
 use Rattle.kernel_morph.specs.Growth.{Stretch}
 use Rattle.kernel_morph.proofs.GrowthLimits.{step}
 use Rattle.kernel_morph.proofs.growth.stretch.Goals as goal

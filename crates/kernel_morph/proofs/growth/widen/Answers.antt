@@ -1,5 +1,4 @@
 -- `kernel_morph::growth::widen` meets its contract: one growth by three lines or two, or two growths in one pass. Assumes nothing.
-use borrow.Author.Rules.{rules}
 use Rattle.kernel_morph.proofs.WidenedWindows.{widened-around, widened_once, widened_twice, towards-twice}
 use Rattle.kernel_morph.proofs.growth.widen.Goals as goal
 

@@ -4,7 +4,6 @@ use Rattle.pixel.specs.Bytes.{pixel_at}
 use Rattle.pixel.specs.Remap.{remapped}
 use Rattle.pixel.specs.Space.{space_maps}
 use Rattle.pixel.proofs.PaintedRows.{pixel-is}
-use borrow.Author.Rules.{rules}
 use Rattle.kernel_remap.proofs.few.convert_at.Goals as goal
 
 pub returns : goal.returns

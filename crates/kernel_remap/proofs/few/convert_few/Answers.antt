@@ -1,9 +1,8 @@
 -- `kernel_remap::few::convert_few` meets its contract: each turn converts one more pixel, which no turn before has touched. Assumes nothing.
-use Prim.Native.Nat.{◌+◌, ◌-◌, ◌*◌, ◌≤◌}
+use Prim.Native.Nat.{◌+◌, ◌*◌}
 use mathlib.Core.Path.{◌≡◌, ◌∙◌, ap}
 use native.Mathlib.Omega.{arith}
-use borrow.Author.Rules.{rules}
-use Rattle.pixel.specs.Bytes.{pixel_at, Painted}
+use Rattle.pixel.specs.Bytes.{pixel_at}
 use Rattle.pixel.specs.Remap.{remapped}
 use Rattle.pixel.specs.Space.{space_maps}
 use Rattle.pixel.proofs.PaintedRows.{pixel-same, painted-none, painted-more}

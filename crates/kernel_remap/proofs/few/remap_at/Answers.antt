@@ -3,13 +3,12 @@ use mathlib.Core.Path.{◌≡◌, refl, ◌∙◌, ap}
 use Prim.Native.Nat.{ℕ, ◌+◌}
 use lib.ListN.{get_or}
 use native.Mathlib.Omega.{arith}
-use Rattle.pixel.specs.Alpha.{premultiplied, unpremultiplied}
+use Rattle.pixel.specs.Alpha.{unpremultiplied}
 use Rattle.pixel.specs.Bytes.{pixel_at}
 use Rattle.pixel.specs.Remap.{remapped}
 use Rattle.pixel.proofs.PaintedRows.{pixel-is}
 use Rattle.kernel_remap.specs.Remaps.{maps_in}
 use Rattle.kernel_remap.proofs.Remaps.{packed-as}
-use borrow.Author.Rules.{rules}
 use Rattle.kernel_remap.proofs.few.remap_at.Goals as goal
 
 pub returns : goal.returns

@@ -3,7 +3,6 @@ use mathlib.Core.Path.{◌∙◌, ap}
 use Prim.Native.Nat.{ℕ, ◌+◌}
 use lib.ListN.{get_or}
 use Rattle.pixel.specs.Alpha.{premultiplied}
-use borrow.Author.Rules.{rules}
 use Rattle.kernel_remap.proofs.few.remap_color.Goals as goal
 
 pub returns : goal.returns

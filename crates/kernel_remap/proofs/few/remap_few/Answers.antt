@@ -1,12 +1,7 @@
 -- `kernel_remap::few::remap_few` meets its contract: one pixel more in each turn. Assumes nothing.
-use Prim.Native.Nat.{◌+◌, ◌-◌, ◌*◌, ◌≤◌}
 use mathlib.Core.Path.{◌≡◌}
 use native.Mathlib.Omega.{arith}
-use Rattle.pixel.specs.Bytes.{pixel_at, Painted}
-use Rattle.pixel.specs.Remap.{remapped}
 use Rattle.pixel.proofs.PaintedRows.{painted-none, painted-more}
-use Rattle.kernel_remap.specs.Remaps.{maps_in}
-use borrow.Author.Rules.{rules}
 use Rattle.kernel_remap.proofs.few.remap_few.Goals as goal
 
 pub loop-x-init : goal.loop-x-init

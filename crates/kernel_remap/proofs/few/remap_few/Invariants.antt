@@ -1,11 +1,7 @@
-use Prim.Native.Nat.{◌+◌, ◌-◌, ◌*◌, ◌≤◌}
-use mathlib.Core.Path.{◌≡◌}
-use native.Mathlib.Omega.{arith}
+use Prim.Native.Nat.{◌*◌, ◌≤◌}
 use Rattle.pixel.specs.Bytes.{pixel_at, Painted}
 use Rattle.pixel.specs.Remap.{remapped}
-use Rattle.pixel.proofs.PaintedRows.{painted-none, painted-more}
 use Rattle.kernel_remap.specs.Remaps.{maps_in}
-use borrow.Author.Rules.{rules}
 use Rattle.kernel_remap.proofs.few.remap_few.Given as goal
 
 abbrev pub invariant-loop-x : goal.invariant-loop-x

@@ -4,8 +4,7 @@ use Prim.Native.Nat.{ℕ, ◌+◌, ◌*◌, ◌/◌}
 use native.Mathlib.Omega.{arith}
 use Rattle.pixel.specs.Alpha.{unpremultiplied}
 use Rattle.pixel.proofs.Premultiplied.{unpremultiplied-byte}
-use Rattle.kernel_remap.proofs.SpaceMaps.{divided, divisor-pos}
-use borrow.Author.Rules.{rules}
+use Rattle.kernel_remap.proofs.SpaceMaps.{divided}
 use Rattle.kernel_remap.proofs.few.unpremultiply.Goals as goal
 
 quotient : (c : goal.After-divisor) → (255 * c.args.c + c.args.a / 2) / c.divisor.result ≡ unpremultiplied c.args.c c.args.a

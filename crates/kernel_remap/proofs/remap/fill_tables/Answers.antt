@@ -1,6 +1,5 @@
 -- `kernel_remap::remap::fill_tables` meets its contract: the law of three lines. Assumes nothing.
 use Rattle.kernel_remap.proofs.Remaps.{lines-filled}
-use borrow.Author.Rules.{rules}
 use Rattle.kernel_remap.proofs.remap.fill_tables.Goals as goal
 
 pub returns : goal.returns

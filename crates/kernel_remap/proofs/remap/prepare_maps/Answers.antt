@@ -1,9 +1,7 @@
 -- `kernel_remap::remap::prepare_maps` meets its contract: the lines of one alpha more in each turn. Assumes nothing.
 use mathlib.Core.Path.{◌≡◌, ◌∙◌}
-use Prim.Native.Nat.{◌-◌, ◌≤◌}
-use lib.ListN.{length}
 use native.Mathlib.Omega.{arith}
-use Rattle.kernel_remap.proofs.Remaps.{TablesFilled, tables-filled-none, tables-filled-more, tables-filled-all}
+use Rattle.kernel_remap.proofs.Remaps.{tables-filled-none, tables-filled-more, tables-filled-all}
 use borrow.Author.Rules.{rules}
 use Rattle.kernel_remap.proofs.remap.prepare_maps.Goals as goal
 

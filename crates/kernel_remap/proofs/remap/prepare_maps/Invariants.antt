@@ -1,9 +1,7 @@
-use mathlib.Core.Path.{◌≡◌, ◌∙◌}
-use Prim.Native.Nat.{◌-◌, ◌≤◌}
+use mathlib.Core.Path.{◌≡◌}
+use Prim.Native.Nat.{◌≤◌}
 use lib.ListN.{length}
-use native.Mathlib.Omega.{arith}
-use Rattle.kernel_remap.proofs.Remaps.{TablesFilled, tables-filled-none, tables-filled-more, tables-filled-all}
-use borrow.Author.Rules.{rules}
+use Rattle.kernel_remap.proofs.Remaps.{TablesFilled}
 use Rattle.kernel_remap.proofs.remap.prepare_maps.Given as goal
 
 abbrev pub invariant-loop-a : goal.invariant-loop-a

@@ -1,11 +1,8 @@
 -- `kernel_remap::remap::remap_row` meets its contract: one pixel more in each turn. Assumes nothing.
 use mathlib.Core.Path.{◌≡◌, ◌∙◌, ap}
-use Prim.Native.Nat.{◌+◌, ◌-◌, ◌*◌, ◌≤◌}
 use native.Mathlib.Omega.{arith}
-use Rattle.pixel.specs.Bytes.{Painted}
 use Rattle.pixel.proofs.PaintedRows.{painted-none, painted-more}
-use Rattle.kernel_remap.specs.Remaps.{looked_up, looked_up_at}
-use borrow.Author.Rules.{rules}
+use Rattle.kernel_remap.specs.Remaps.{looked_up}
 use Rattle.kernel_remap.proofs.remap.remap_row.Goals as goal
 
 pub loop-x-init : goal.loop-x-init

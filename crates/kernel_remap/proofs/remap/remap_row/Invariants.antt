@@ -1,10 +1,6 @@
-use mathlib.Core.Path.{◌≡◌, ◌∙◌, ap}
-use Prim.Native.Nat.{◌+◌, ◌-◌, ◌*◌, ◌≤◌}
-use native.Mathlib.Omega.{arith}
+use Prim.Native.Nat.{◌≤◌}
 use Rattle.pixel.specs.Bytes.{Painted}
-use Rattle.pixel.proofs.PaintedRows.{painted-none, painted-more}
-use Rattle.kernel_remap.specs.Remaps.{looked_up, looked_up_at}
-use borrow.Author.Rules.{rules}
+use Rattle.kernel_remap.specs.Remaps.{looked_up_at}
 use Rattle.kernel_remap.proofs.remap.remap_row.Given as goal
 
 abbrev pub invariant-loop-x : goal.invariant-loop-x

@@ -7,7 +7,6 @@ use Rattle.pixel.specs.Word.{unpacked}
 use Rattle.pixel.proofs.PaintedRows.{pixel-is}
 use Rattle.kernel_remap.specs.Remaps.{looked_up}
 use Rattle.kernel_remap.proofs.Remaps.{packed-as}
-use borrow.Author.Rules.{rules}
 use Rattle.kernel_remap.proofs.remap.remap_word.Goals as goal
 
 pub returns : goal.returns

@@ -1,10 +1,9 @@
 -- `kernel_remap::table::clear` meets its contract: one store more in each turn. Assumes nothing.
 use mathlib.Core.Path.{◌≡◌, refl}
-use Prim.Native.Nat.{◌-◌, ◌≤◌, ◌<◌}
+use Prim.Native.Nat.{◌<◌}
 use lib.ListN.{length}
 use native.Mathlib.Omega.{arith}
 use borrow.Author.Rules.{rules}
-use Rattle.window.specs.Store.{Filled}
 use Rattle.window.proofs.Store.{filled_none, filled_more}
 use Rattle.kernel_remap.proofs.table.clear.Goals as goal
 

@@ -1,10 +1,7 @@
-use mathlib.Core.Path.{◌≡◌, refl}
-use Prim.Native.Nat.{◌-◌, ◌≤◌, ◌<◌}
+use mathlib.Core.Path.{◌≡◌}
+use Prim.Native.Nat.{◌≤◌}
 use lib.ListN.{length}
-use native.Mathlib.Omega.{arith}
-use borrow.Author.Rules.{rules}
 use Rattle.window.specs.Store.{Filled}
-use Rattle.window.proofs.Store.{filled_none, filled_more}
 use Rattle.kernel_remap.proofs.table.clear.Given as goal
 
 abbrev pub invariant-loop-i : goal.invariant-loop-i

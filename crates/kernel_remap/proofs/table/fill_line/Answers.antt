@@ -1,12 +1,10 @@
 -- `kernel_remap::table::fill_line` meets its contract: one store more in each turn. Assumes nothing.
 use mathlib.Core.Path.{◌≡◌, ◌∙◌, ap}
-use Prim.Native.Nat.{ℕ, ◌+◌, ◌-◌, ◌≤◌, ◌<◌}
+use Prim.Native.Nat.{ℕ, ◌+◌, ◌<◌}
 use lib.ListN.{length, get_or}
 use native.Mathlib.Omega.{arith}
 use Rattle.pixel.specs.Alpha.{premultiplied}
-use Rattle.window.specs.Store.{Filled}
 use Rattle.window.proofs.Store.{filled_none, filled_more}
-use Rattle.kernel_remap.specs.Code.{line_entry}
 use borrow.Author.Rules.{rules}
 use Rattle.kernel_remap.proofs.table.fill_line.Goals as goal
 

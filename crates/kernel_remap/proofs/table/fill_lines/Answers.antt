@@ -1,9 +1,8 @@
 -- `kernel_remap::table::fill_lines` meets its contract: one line more in each turn. Assumes nothing.
-use mathlib.Core.Path.{◌≡◌, refl, ◌∙◌}
-use Prim.Native.Nat.{◌-◌, ◌≤◌}
-use lib.ListN.{length, take}
+use mathlib.Core.Path.{refl, ◌∙◌}
+use lib.ListN.{take}
 use native.Mathlib.Omega.{arith}
-use Rattle.kernel_remap.proofs.TableLines.{Begun, begun_first, begun_more, line-pair}
+use Rattle.kernel_remap.proofs.TableLines.{begun_first, begun_more, line-pair}
 use borrow.Author.Rules.{rules}
 use Rattle.kernel_remap.proofs.table.fill_lines.Goals as goal
 

@@ -1,9 +1,7 @@
-use mathlib.Core.Path.{◌≡◌, refl, ◌∙◌}
-use Prim.Native.Nat.{◌-◌, ◌≤◌}
-use lib.ListN.{length, take}
-use native.Mathlib.Omega.{arith}
-use Rattle.kernel_remap.proofs.TableLines.{Begun, begun_first, begun_more, line-pair}
-use borrow.Author.Rules.{rules}
+use mathlib.Core.Path.{◌≡◌}
+use Prim.Native.Nat.{◌≤◌}
+use lib.ListN.{length}
+use Rattle.kernel_remap.proofs.TableLines.{Begun}
 use Rattle.kernel_remap.proofs.table.fill_lines.Given as goal
 
 abbrev pub invariant-loop-a : goal.invariant-loop-a

@@ -1,12 +1,9 @@
 -- `kernel_remap::table::fill_map` meets its contract: one store more in each turn, by the law of full alpha. Assumes nothing.
 use mathlib.Core.Path.{◌∙◌}
-use Prim.Native.Nat.{◌-◌, ◌≤◌, ◌<◌}
-use lib.ListN.{length, get_or}
+use Prim.Native.Nat.{◌<◌}
+use lib.ListN.{length}
 use native.Mathlib.Omega.{arith}
-use borrow.Author.Rules.{rules}
-use Rattle.window.specs.Store.{Filled}
 use Rattle.window.proofs.Store.{filled_none, filled_more}
-use Rattle.pixel.specs.Space.{table_of}
 use Rattle.kernel_remap.proofs.SpaceMaps.{pair-full}
 use Rattle.kernel_remap.proofs.table.fill_map.Goals as goal
 

@@ -1,12 +1,7 @@
-use mathlib.Core.Path.{◌∙◌}
-use Prim.Native.Nat.{◌-◌, ◌≤◌, ◌<◌}
-use lib.ListN.{length, get_or}
-use native.Mathlib.Omega.{arith}
-use borrow.Author.Rules.{rules}
+use Prim.Native.Nat.{◌≤◌}
+use lib.ListN.{get_or}
 use Rattle.window.specs.Store.{Filled}
-use Rattle.window.proofs.Store.{filled_none, filled_more}
 use Rattle.pixel.specs.Space.{table_of}
-use Rattle.kernel_remap.proofs.SpaceMaps.{pair-full}
 use Rattle.kernel_remap.proofs.table.fill_map.Given as goal
 
 abbrev pub invariant-loop-c : goal.invariant-loop-c

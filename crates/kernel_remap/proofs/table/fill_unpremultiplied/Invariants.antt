@@ -1,12 +1,7 @@
-use mathlib.Core.Path.{◌≡◌, ◌∙◌, ap}
-use Prim.Native.Nat.{ℕ, ◌+◌, ◌-◌, ◌≤◌, ◌<◌}
-use lib.ListN.{length}
-use native.Mathlib.Omega.{arith}
-use Rattle.pixel.specs.Alpha.{unpremultiplied}
+use mathlib.Core.Path.{◌≡◌}
+use Prim.Native.Nat.{◌+◌, ◌≤◌}
 use Rattle.window.specs.Store.{Filled}
-use Rattle.window.proofs.Store.{filled_none, filled_more}
 use Rattle.kernel_remap.specs.Code.{unpremultiplied_at}
-use borrow.Author.Rules.{rules}
 use Rattle.kernel_remap.proofs.table.fill_unpremultiplied.Given as goal
 
 abbrev pub invariant-loop-c : goal.invariant-loop-c

@@ -1,7 +1,5 @@
 -- `kernel_row::row::alpha_row` meets its contract: each turn paints one more pixel's alpha. Assumes nothing.
-use Rattle.std.proofs.Common.{◌≡◌, ◌-◌, ◌*◌, ◌≤◌, arith, rules}
-use Rattle.pixel.specs.Bytes.{pixel_at, Painted}
-use Rattle.kernel_row.specs.Row.{alpha_only}
+use Rattle.std.proofs.Common.{◌≡◌, arith}
 use Rattle.pixel.proofs.PaintedRows.{painted-none, painted-more}
 use Rattle.kernel_row.proofs.AlphaWords.{unpacked-alpha}
 use Rattle.kernel_row.proofs.row.alpha_row.Goals as goal

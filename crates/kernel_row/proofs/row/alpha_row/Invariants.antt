@@ -1,8 +1,6 @@
-use Rattle.std.proofs.Common.{◌≡◌, ◌-◌, ◌*◌, ◌≤◌, arith, rules}
+use Rattle.std.proofs.Common.{◌*◌, ◌≤◌}
 use Rattle.pixel.specs.Bytes.{pixel_at, Painted}
 use Rattle.kernel_row.specs.Row.{alpha_only}
-use Rattle.pixel.proofs.PaintedRows.{painted-none, painted-more}
-use Rattle.kernel_row.proofs.AlphaWords.{unpacked-alpha}
 use Rattle.kernel_row.proofs.row.alpha_row.Given as goal
 
 abbrev pub invariant-loop-x : goal.invariant-loop-x

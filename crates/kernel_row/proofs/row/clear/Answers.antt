@@ -1,7 +1,6 @@
 -- `kernel_row::row::clear` meets its contract: the bytes stored so far are those of a list of zeros. Assumes nothing.
-use Rattle.std.proofs.Common.{◌-◌, ◌<◌, ◌≤◌, length, get_or, replicate, sym, arith, rules}
+use Rattle.std.proofs.Common.{◌<◌, length, sym, arith}
 use lib.ListN.{length-replicate, get_or-replicate}
-use Rattle.window.specs.Store.{Filled}
 use Rattle.window.proofs.Store.{filled_none, filled_more}
 use Rattle.kernel_row.proofs.LentParts.{filled-whole}
 use Rattle.kernel_row.proofs.row.clear.Goals as goal

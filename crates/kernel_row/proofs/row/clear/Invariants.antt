@@ -1,8 +1,5 @@
-use Rattle.std.proofs.Common.{◌-◌, ◌<◌, ◌≤◌, length, get_or, replicate, sym, arith, rules}
-use lib.ListN.{length-replicate, get_or-replicate}
+use Rattle.std.proofs.Common.{◌≤◌, length, get_or, replicate}
 use Rattle.window.specs.Store.{Filled}
-use Rattle.window.proofs.Store.{filled_none, filled_more}
-use Rattle.kernel_row.proofs.LentParts.{filled-whole}
 use Rattle.kernel_row.proofs.row.clear.Given as goal
 
 abbrev pub invariant-loop-i : goal.invariant-loop-i

@@ -1,5 +1,5 @@
 -- `kernel_row::row::clear_pixels` meets its contract: a lent part came back as zeros. Assumes nothing.
-use Rattle.std.proofs.Common.{refl, rules}
+use Rattle.std.proofs.Common.{refl}
 use Rattle.kernel_row.proofs.LentParts.{cleared-part}
 use Rattle.kernel_row.proofs.row.clear_pixels.Goals as goal
 

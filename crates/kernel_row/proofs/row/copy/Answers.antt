@@ -1,6 +1,5 @@
 -- `kernel_row::row::copy` meets its contract: the bytes stored so far are the source's. Assumes nothing.
-use Rattle.std.proofs.Common.{◌-◌, ◌<◌, ◌≤◌, length, get_or, refl, arith, rules}
-use Rattle.window.specs.Store.{Filled}
+use Rattle.std.proofs.Common.{◌<◌, length, refl, arith}
 use Rattle.window.proofs.Store.{filled_none, filled_more}
 use Rattle.kernel_row.proofs.LentParts.{filled-whole}
 use Rattle.kernel_row.proofs.row.copy.Goals as goal

@@ -1,7 +1,5 @@
-use Rattle.std.proofs.Common.{◌-◌, ◌<◌, ◌≤◌, length, get_or, refl, arith, rules}
+use Rattle.std.proofs.Common.{◌≤◌, length, get_or}
 use Rattle.window.specs.Store.{Filled}
-use Rattle.window.proofs.Store.{filled_none, filled_more}
-use Rattle.kernel_row.proofs.LentParts.{filled-whole}
 use Rattle.kernel_row.proofs.row.copy.Given as goal
 
 abbrev pub invariant-loop-i : goal.invariant-loop-i

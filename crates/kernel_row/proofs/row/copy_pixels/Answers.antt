@@ -1,5 +1,5 @@
 -- `kernel_row::row::copy_pixels` meets its contract: a lent part came back as a part of the source. Assumes nothing.
-use Rattle.std.proofs.Common.{◌≡◌, ◌+◌, ◌-◌, ◌*◌, refl, arith, rules}
+use Rattle.std.proofs.Common.{◌≡◌, ◌+◌, ◌-◌, ◌*◌, refl, arith}
 use Rattle.kernel_row.proofs.LentParts.{copied-part}
 use Rattle.kernel_row.proofs.row.copy_pixels.Goals as goal
 

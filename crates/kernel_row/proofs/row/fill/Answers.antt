@@ -1,7 +1,5 @@
 -- `kernel_row::row::fill` meets its contract: each turn paints one more pixel. Assumes nothing.
-use Rattle.std.proofs.Common.{◌≡◌, ◌-◌, ◌≤◌, refl, arith, rules}
-use Rattle.pixel.specs.Bytes.{Painted}
-use Rattle.pixel.specs.Word.{unpacked}
+use Rattle.std.proofs.Common.{◌≡◌, refl, arith}
 use Rattle.pixel.proofs.PaintedRows.{painted-none, painted-more, painted-as}
 use Rattle.kernel_row.proofs.row.fill.Goals as goal
 

@@ -1,7 +1,6 @@
-use Rattle.std.proofs.Common.{◌≡◌, ◌-◌, ◌≤◌, refl, arith, rules}
+use Rattle.std.proofs.Common.{◌≤◌}
 use Rattle.pixel.specs.Bytes.{Painted}
 use Rattle.pixel.specs.Word.{unpacked}
-use Rattle.pixel.proofs.PaintedRows.{painted-none, painted-more, painted-as}
 use Rattle.kernel_row.proofs.row.fill.Given as goal
 
 abbrev pub invariant-loop-x : goal.invariant-loop-x

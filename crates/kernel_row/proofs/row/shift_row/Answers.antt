@@ -1,6 +1,6 @@
 -- `kernel_row::row::shift_row` meets its contract: the row shows between the two parting places, and is transparent before and after them.
 -- Assumes nothing.
-use Rattle.std.proofs.Common.{◌-◌, ◌<◌, arith, rules}
+use Rattle.std.proofs.Common.{◌<◌, arith, rules}
 use Rattle.pixel.proofs.PaintedRows.{painted-as, painted-join}
 use Rattle.kernel_row.proofs.MovedRows.{moved_before, moved-between, moved-after, moved_none, moved-starts, moved-room}
 use Rattle.kernel_row.proofs.row.shift_row.Goals as goal

@@ -1,8 +1,8 @@
 -- `kernel_row::scan::any_exceeds` meets its contract: the marks say whether a pixel passed is not valid. Assumes nothing.
-use Rattle.std.proofs.Common.{◌≡◌, ℕ, ◌+◌, ◌-◌, ◌*◌, ◌<◌, ◌≤◌, Bool, not, refl, ap, ◌∙◌, arith, rules}
+use Rattle.std.proofs.Common.{◌≡◌, not, refl, ap, ◌∙◌, arith}
 use Rattle.pixel.specs.declared.Pixel.{Pixel}
 use Rattle.pixel.specs.Bytes.{valid?}
-use Rattle.kernel_row.specs.Code.{all_valid?, marked?}
+use Rattle.kernel_row.specs.Code.{all_valid?}
 use Rattle.kernel_row.proofs.FirstInvalid.{all-valid-more}
 use Rattle.kernel_row.proofs.Marks.{marked-or}
 use Rattle.kernel_row.proofs.scan.any_exceeds.Goals as goal

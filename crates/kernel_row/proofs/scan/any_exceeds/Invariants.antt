@@ -1,9 +1,5 @@
-use Rattle.std.proofs.Common.{◌≡◌, ℕ, ◌+◌, ◌-◌, ◌*◌, ◌<◌, ◌≤◌, Bool, not, refl, ap, ◌∙◌, arith, rules}
-use Rattle.pixel.specs.declared.Pixel.{Pixel}
-use Rattle.pixel.specs.Bytes.{valid?}
+use Rattle.std.proofs.Common.{◌≡◌, ◌≤◌, not}
 use Rattle.kernel_row.specs.Code.{all_valid?, marked?}
-use Rattle.kernel_row.proofs.FirstInvalid.{all-valid-more}
-use Rattle.kernel_row.proofs.Marks.{marked-or}
 use Rattle.kernel_row.proofs.scan.any_exceeds.Given as goal
 
 abbrev pub invariant-loop-x : goal.invariant-loop-x

@@ -1,12 +1,12 @@
 -- `kernel_row::scan::first_invalid` meets its contract: no pixel passed is invalid, and the loops are left at the first that is.
 -- Assumes nothing.
-use Rattle.std.proofs.Common.{◌≡◌, ℕ, ◌+◌, ◌-◌, ◌*◌, ◌<◌, ◌≤◌, Bool, true, false, not, sym, refl, ap, ◌∙◌, ⊎_elim, mul_comm, add-mul, zero-mul, arith, rules}
+use Rattle.std.proofs.Common.{◌≡◌, ℕ, ◌+◌, ◌-◌, ◌*◌, ◌≤◌, true, not, sym, refl, ap, ◌∙◌, mul_comm, add-mul, zero-mul, arith}
 use borrow.Author.Tests.{not-true, not-false}
 use Rattle.pixel.specs.declared.Pixel.{Pixel}
 use Rattle.pixel.specs.Bytes.{pixel_at, valid?, first_invalid}
-use Rattle.kernel_row.specs.Code.{all_valid?}
 use Rattle.kernel_row.proofs.FirstInvalid.{first-invalid-more, first-at, first-row, scan-row-room}
 use Rattle.kernel_row.proofs.scan.first_invalid.Goals as goal
+use Rattle.kernel_row.proofs.scan.first_invalid.Goals.{then-any_exceeds+else-loop-x-test, else-any_exceeds}
 
 pub rows-init : goal.rows-init
 unfolding first_invalid
@@ -79,11 +79,12 @@ rows-preserved c =
     let r = c.rows in
     let a = c.args in
     let next : r.p + a.w ≡ (r.y + 1) * a.w = omega (arith, add-mul r.y 1 a.w) in
-    let found : c.if-any_exceeds.found ≡ a.w * a.h = ⊎_elim (λ w. w.3 ∙ w.1.inv.1) (λ w. w.1 ∙ r.invariant.2) c.if-any_exceeds.branch in
-    let none : first_invalid a.s.now (r.p + a.w) ≡ r.p + a.w = ⊎_elim
-    (λ w. let e : w.1.x ≡ a.w = omega arith in rw e at w.1.inv.2)
-    (λ w. first-row a.s.now r.p (4 * r.p + 4 * a.w - 4 * r.p) (4 * r.p) a.w refl (omega arith) r.invariant.3 (not-false _ (sym c.any_exceeds.ensures ∙ w.0.left)))
-    c.if-any_exceeds.branch in
+    let found : c.if-any_exceeds.found ≡ a.w * a.h = elim c.if-any_exceeds.branch
+    [ then-any_exceeds+else-loop-x-test w ↦ w.found-is ∙ w.loop-x.invariant.1 | else-any_exceeds w ↦ w.found-is ∙ r.invariant.2 ] in
+    let none : first_invalid a.s.now (r.p + a.w) ≡ r.p + a.w = elim c.if-any_exceeds.branch [
+      | then-any_exceeds+else-loop-x-test w ↦ let e : w.loop-x.x ≡ a.w = omega arith in rw e at w.loop-x.invariant.2
+      | else-any_exceeds w ↦ first-row a.s.now r.p (4 * r.p + 4 * a.w - 4 * r.p) (4 * r.p) a.w refl (omega arith) r.invariant.3 (not-false _ (sym c.any_exceeds.ensures ∙ w.if-any_exceeds.false))
+    ] in
     (omega arith, next, found, none)
 
 pub returns-after-rows : goal.returns-after-rows

@@ -1,5 +1,5 @@
 -- `kernel_row::scan::marks_of` meets its contract: R and B, then G and A, are taken from the alpha. Assumes nothing.
-use Rattle.std.proofs.Common.{ℕ, ◌+◌, ◌*◌, ◌/◌, ◌%◌, ◌<◌, arith, rules}
+use Rattle.std.proofs.Common.{◌/◌, ◌%◌, arith}
 use Rattle.pixel.specs.Word.{unpacked}
 use Rattle.kernel_row.proofs.Marks.{marked-halves, marked-pixel}
 use Rattle.kernel_row.proofs.scan.marks_of.Goals as goal
@@ -11,5 +11,5 @@ returns c =
     let first = c.wrapping_sub_u32-first in
     let second = c.wrapping_sub_u32 in
     marked-pixel (unpacked v) first.result second.result
-    (marked-halves a (v % 256) (v / 65536 % 256) first.result (omega arith) (omega arith) (omega arith) (omega arith) first.ensures)
-    (marked-halves a (v / 256 % 256) a second.result (omega arith) (omega arith) (omega arith) (omega arith) second.ensures)
+    (marked-halves a (v % 256) (v / 65536 % 256) first.result (omega arith) (omega arith) (omega arith) (omega arith) first.ensures.value)
+    (marked-halves a (v / 256 % 256) a second.result (omega arith) (omega arith) (omega arith) (omega arith) second.ensures.value)

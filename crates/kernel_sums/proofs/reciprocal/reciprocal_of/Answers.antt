@@ -1,10 +1,9 @@
 -- `reciprocal_of` meets its contract: the loop keeps a power of two below the size, and `ReciprocalDivides` says that its reciprocal divides. Assumes nothing.
 use mathlib.Core.Path.{◌≡◌, refl, ◌∙◌, ap}
-use Prim.Native.Nat.{ℕ, ◌+◌, ◌*◌, ◌-◌, ◌<◌, ◌^◌}
+use Prim.Native.Nat.{ℕ, ◌+◌, ◌*◌, ◌^◌}
 use native.Mathlib.Nat.{pow-succ'}
 use native.Mathlib.Numerals.{add-one}
 use native.Mathlib.Omega.{arith}
-use borrow.Author.Rules.{rules}
 use Rattle.kernel_sums.specs.Reciprocal.{ceiling}
 use Rattle.kernel_sums.proofs.ReciprocalDivides.{fits, divides}
 use Rattle.kernel_sums.proofs.reciprocal.reciprocal_of.Goals as goal

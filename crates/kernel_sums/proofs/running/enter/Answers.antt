@@ -2,7 +2,6 @@
 use mathlib.Core.Path.{sym, ap}
 use Prim.Native.Nat.{ℕ, ◌+◌}
 use native.Mathlib.Omega.{arith}
-use borrow.Author.Rules.{rules}
 use lib.ListN.{get_or}
 use Rattle.kernel_sums.proofs.FilledRanges.{filled-as, filled-same}
 use Rattle.window.proofs.Numbers.{line-end}

@@ -1,10 +1,8 @@
 -- `start` meets its contract: half of the size, and the lines ahead of the first. Assumes nothing.
 use mathlib.Core.Path.{◌≡◌, ◌∙◌, refl, ap}
-use Prim.Native.Nat.{ℕ, ◌+◌, ◌-◌, ◌≤◌, ◌<◌}
+use Prim.Native.Nat.{ℕ, ◌+◌, ◌<◌}
 use native.Mathlib.Omega.{arith}
-use borrow.Author.Rules.{rules}
-use lib.ListN.{length, get_or}
-use Rattle.window.specs.Store.{Filled}
+use lib.ListN.{length}
 use Rattle.window.specs.Window.{fold}
 use Rattle.window.proofs.Store.{filled_none, filled_more}
 use Rattle.kernel_sums.specs.Running.{columns}

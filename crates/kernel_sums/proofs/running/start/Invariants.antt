@@ -1,14 +1,9 @@
-use mathlib.Core.Path.{◌≡◌, ◌∙◌, refl, ap}
-use Prim.Native.Nat.{ℕ, ◌+◌, ◌-◌, ◌≤◌, ◌<◌}
-use native.Mathlib.Omega.{arith}
-use borrow.Author.Rules.{rules}
+use mathlib.Core.Path.{◌≡◌}
+use Prim.Native.Nat.{ℕ, ◌+◌, ◌≤◌, ◌<◌}
 use lib.ListN.{length, get_or}
 use Rattle.window.specs.Store.{Filled}
 use Rattle.window.specs.Window.{fold}
-use Rattle.window.proofs.Store.{filled_none, filled_more}
 use Rattle.kernel_sums.specs.Running.{columns}
-use Rattle.kernel_sums.proofs.SlidingSums.{fold-none, fold_more, fold-le, running-start}
-use Rattle.kernel_sums.proofs.PassColumns.{columns-lt}
 use Rattle.kernel_sums.proofs.running.start.Given as goal
 
 abbrev pub invariant-loop-i : goal.invariant-loop-i

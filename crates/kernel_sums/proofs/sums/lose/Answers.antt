@@ -1,10 +1,8 @@
 -- `lose` meets its contract: every byte of the line is taken away, one sum after another. Assumes nothing.
 use mathlib.Core.Path.{◌≡◌}
-use Prim.Native.Nat.{◌+◌, ◌-◌, ◌≤◌, ◌<◌}
+use Prim.Native.Nat.{◌+◌, ◌-◌, ◌<◌}
 use native.Mathlib.Omega.{arith}
-use borrow.Author.Rules.{rules}
 use lib.ListN.{length, get_or}
-use Rattle.window.specs.Store.{Filled}
 use Rattle.window.proofs.Store.{filled_none, filled_more}
 use Rattle.kernel_sums.proofs.sums.lose.Goals as goal
 

@@ -1,10 +1,8 @@
 -- `means` meets its contract: every sum is divided, one store after another. Assumes nothing.
 use mathlib.Core.Path.{◌≡◌}
-use Prim.Native.Nat.{◌+◌, ◌-◌, ◌/◌, ◌≤◌, ◌<◌}
+use Prim.Native.Nat.{◌+◌, ◌/◌, ◌<◌}
 use native.Mathlib.Omega.{arith}
-use borrow.Author.Rules.{rules}
 use lib.ListN.{length, get_or}
-use Rattle.window.specs.Store.{Filled}
 use Rattle.kernel_sums.proofs.LinesApart.{line-none, line-more}
 use Rattle.kernel_sums.proofs.sums.means.Goals as goal
 

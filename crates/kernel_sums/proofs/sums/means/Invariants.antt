@@ -1,10 +1,6 @@
-use mathlib.Core.Path.{◌≡◌}
-use Prim.Native.Nat.{◌+◌, ◌-◌, ◌/◌, ◌≤◌, ◌<◌}
-use native.Mathlib.Omega.{arith}
-use borrow.Author.Rules.{rules}
-use lib.ListN.{length, get_or}
+use Prim.Native.Nat.{◌+◌, ◌-◌, ◌/◌, ◌≤◌}
+use lib.ListN.{get_or}
 use Rattle.window.specs.Store.{Filled}
-use Rattle.kernel_sums.proofs.LinesApart.{line-none, line-more}
 use Rattle.kernel_sums.proofs.sums.means.Given as goal
 
 abbrev pub invariant-loop-i : goal.invariant-loop-i

@@ -2,9 +2,7 @@
 use mathlib.Core.Path.{◌≡◌, ◌∙◌, ap}
 use Prim.Native.Nat.{ℕ, ◌+◌, ◌*◌, ◌-◌, ◌/◌, ◌≤◌, ◌<◌}
 use native.Mathlib.Omega.{arith}
-use borrow.Author.Rules.{rules}
 use lib.ListN.{length, get_or}
-use Rattle.window.specs.Store.{Filled}
 use Rattle.window.proofs.Store.{filled_none, filled_more}
 use Rattle.kernel_sums.proofs.LinesApart.{line-none, line-more, line-apart}
 use Rattle.kernel_sums.proofs.sums.slide_line.Goals as goal
@@ -28,7 +26,7 @@ overflow_add-t c =
     let s = get_or a.sums.now i 0 in
     let t = get_or a.buf.now (a.p + i) 0 in
     let u = get_or a.buf.now (a.q + i) 0 in
-    (s < 65280) × (u ≤ s + t) × (s + t - u ≤ 255 * a.size + a.size / 2)) = c.requires.apart.1 c.loop-i.i c.loop-i-test.true in
+    (s < 65280) × (u ≤ s + t) × (s + t - u ≤ 255 * a.size + a.size / 2)) = c.requires.slides c.loop-i.i c.loop-i-test.true in
     record { fits = omega (arith, sum-was, (known).0, c.wide.ensures.1) }
 
 pub bounds-buf-q : goal.bounds-buf-q
@@ -40,14 +38,14 @@ overflow_sub-t c =
     let line-was : (let L = c.loop-i in
     let a = c.args in
     (get_or L.buf (a.p + L.i) 0 ≡ get_or a.buf.now (a.p + L.i) 0) × (get_or L.buf (a.q + L.i) 0 ≡ get_or a.buf.now (a.q + L.i) 0)) = let L = c.loop-i in
-    let pre = c.requires.apart.0 in
+    let pre = c.requires.apart in
     (line-apart _ _ _ _ _ _ _ pre.0 L.invariant.0 L.invariant.2 L.i c.loop-i-test.true, line-apart _ _ _ _ _ _ _ pre.1 L.invariant.0 L.invariant.2 L.i c.loop-i-test.true) in
     let known : (let i = c.loop-i.i in
     let a = c.args in
     let s = get_or a.sums.now i 0 in
     let t = get_or a.buf.now (a.p + i) 0 in
     let u = get_or a.buf.now (a.q + i) 0 in
-    (s < 65280) × (u ≤ s + t) × (s + t - u ≤ 255 * a.size + a.size / 2)) = c.requires.apart.1 c.loop-i.i c.loop-i-test.true in
+    (s < 65280) × (u ≤ s + t) × (s + t - u ≤ 255 * a.size + a.size / 2)) = c.requires.slides c.loop-i.i c.loop-i-test.true in
     omega (arith, sum-was, (line-was).0, (line-was).1, (known).1, c.wide.ensures.0, c.wide-in-loop-i.ensures.0)
 
 pub bounds-sums-i-in-loop-i : goal.bounds-sums-i-in-loop-i
@@ -59,14 +57,14 @@ mean-requires c =
     let line-was : (let L = c.loop-i in
     let a = c.args in
     (get_or L.buf (a.p + L.i) 0 ≡ get_or a.buf.now (a.p + L.i) 0) × (get_or L.buf (a.q + L.i) 0 ≡ get_or a.buf.now (a.q + L.i) 0)) = let L = c.loop-i in
-    let pre = c.requires.apart.0 in
+    let pre = c.requires.apart in
     (line-apart _ _ _ _ _ _ _ pre.0 L.invariant.0 L.invariant.2 L.i c.loop-i-test.true, line-apart _ _ _ _ _ _ _ pre.1 L.invariant.0 L.invariant.2 L.i c.loop-i-test.true) in
     let known : (let i = c.loop-i.i in
     let a = c.args in
     let s = get_or a.sums.now i 0 in
     let t = get_or a.buf.now (a.p + i) 0 in
     let u = get_or a.buf.now (a.q + i) 0 in
-    (s < 65280) × (u ≤ s + t) × (s + t - u ≤ 255 * a.size + a.size / 2)) = c.requires.apart.1 c.loop-i.i c.loop-i-test.true in
+    (s < 65280) × (u ≤ s + t) × (s + t - u ≤ 255 * a.size + a.size / 2)) = c.requires.slides c.loop-i.i c.loop-i-test.true in
     (c.requires.n_in_bounds.4, omega (arith, sum-was, (line-was).0, (line-was).1, (known).2, c.wide.ensures.0, c.wide-in-loop-i.ensures.0))
 
 pub bounds-buf-r : goal.bounds-buf-r
@@ -78,7 +76,7 @@ loop-i-preserved c =
     let line-was : (let L = c.loop-i in
     let a = c.args in
     (get_or L.buf (a.p + L.i) 0 ≡ get_or a.buf.now (a.p + L.i) 0) × (get_or L.buf (a.q + L.i) 0 ≡ get_or a.buf.now (a.q + L.i) 0)) = let L = c.loop-i in
-    let pre = c.requires.apart.0 in
+    let pre = c.requires.apart in
     (line-apart _ _ _ _ _ _ _ pre.0 L.invariant.0 L.invariant.2 L.i c.loop-i-test.true, line-apart _ _ _ _ _ _ _ pre.1 L.invariant.0 L.invariant.2 L.i c.loop-i-test.true) in
     let L = c.loop-i in
     let a = c.args in
@@ -100,4 +98,4 @@ shape_of-sums c = c.loop-i.invariant.1.long
 pub returns : goal.returns
 returns c =
     let e : c.loop-i.i ≡ c.args.n = omega arith in
-    rw (← e) (c.loop-i.invariant.1, c.loop-i.invariant.2)
+    rw (← e) record { filled = c.loop-i.invariant.1; filled_2 = c.loop-i.invariant.2 }

@@ -2,7 +2,6 @@
 use Prim.Native.Nat.{◌*◌, ◌≤◌}
 use native.Mathlib.Omega.{arith}
 use native.Mathlib.Nat.{mul-le-mul}
-use borrow.Author.Rules.{rules}
 use Rattle.kernel_taps.proofs.division.excess.Goals as goal
 
 pub overflow_mul-result-2 : goal.overflow_mul-result-2

@@ -1,11 +1,9 @@
 -- `kernel_taps::lanes::fill3` meets its contract: one store more in each turn. Assumes nothing.
-use Prim.Native.Nat.{ℕ, ◌+◌, ◌-◌, ◌≤◌, ◌<◌}
+use Prim.Native.Nat.{◌<◌}
 use mathlib.Core.Path.{◌≡◌}
 use native.Mathlib.Omega.{arith}
 use lib.ListN.{length}
-use Rattle.window.specs.Store.{Filled}
 use Rattle.window.proofs.Store.{filled_none, filled_more}
-use Rattle.kernel_taps.specs.Lanes.{tapped}
 use Rattle.kernel_taps.proofs.lanes.fill3.Goals as goal
 
 pub loop-b-init : goal.loop-b-init

@@ -1,7 +1,6 @@
 -- `kernel_taps::lanes::finish_byte` meets its contract: what its callees promise. Assumes nothing.
 use mathlib.Core.Path.{◌∙◌, ap}
 use Prim.Native.Nat.{ℕ, ◌-◌, ◌/◌, min}
-use borrow.Author.Rules.{rules}
 use Rattle.kernel_taps.specs.Lanes.{finished}
 use Rattle.kernel_taps.proofs.lanes.finish_byte.Goals as goal
 

@@ -1,6 +1,5 @@
 -- `kernel_taps::lanes::lane3` meets its contract: the law of three rows. Assumes nothing.
 use mathlib.Core.Path.{◌∙◌, ap}
-use borrow.Author.Rules.{rules}
 use Rattle.kernel_taps.specs.Lanes.{finished}
 use Rattle.kernel_taps.proofs.RowTotals.{total-three}
 use Rattle.kernel_taps.proofs.lanes.lane3.Goals as goal

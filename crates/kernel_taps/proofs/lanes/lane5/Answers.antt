@@ -1,6 +1,5 @@
 -- `kernel_taps::lanes::lane5` meets its contract: the law of five rows. Assumes nothing.
 use mathlib.Core.Path.{◌∙◌, ap}
-use borrow.Author.Rules.{rules}
 use Rattle.kernel_taps.specs.Lanes.{finished}
 use Rattle.kernel_taps.proofs.RowTotals.{total-five}
 use Rattle.kernel_taps.proofs.lanes.lane5.Goals as goal

@@ -2,7 +2,6 @@
 use Prim.Native.Nat.{ℕ}
 use mathlib.Core.Path.{◌∙◌, ap}
 use native.Mathlib.Omega.{arith}
-use borrow.Author.Rules.{rules}
 use Rattle.number.specs.Number.{value}
 use Rattle.number.specs.declared.Fixed.{Fixed}
 use Rattle.pixel.specs.Coefficient.{Allowed}
@@ -17,7 +16,7 @@ cells_of-n-requires c = (c.requires.few_columns, c.requires.few_rows)
 pub returns-then-convolution : goal.returns-then-convolution
 unfolding divisor_of
 returns-then-convolution c =
-    let n = c.Cells-of in
+    let n = c.cells_of-n in
     let a : Allowed c.number_at.result = rw c.number_at.ensures (c.requires.allowed _ (omega (arith, n.ensures.1))) in (
       rw c.if-convolution.true
           (ap (λ (u : Fixed). value u) (c.number_at.ensures ∙ ap (λ (i : ℕ). value_at c.args.values i) n.ensures.0)),
@@ -26,12 +25,12 @@ returns-then-convolution c =
     )
 
 pub summed-s-requires : goal.summed-s-requires
-summed-s-requires c = (c.requires.allowed, c.Cells-of.ensures.1)
+summed-s-requires c = (c.requires.allowed, c.cells_of-n.ensures.1)
 
 pub returns-then-s : goal.returns-then-s
 unfolding divisor_of
 returns-then-s c =
-    let n = c.Cells-of.ensures.0 in
+    let n = c.cells_of-n.ensures.0 in
     let r = c.summed-s in
     let e = r.ensures.0 ∙ ap (λ (k : ℕ). sum k (λ (i : ℕ). value (value_at c.args.values i))) n in
     (rw c.if-convolution.false (or-zero _ r.result.above r.result.below e c.if-s.true), omega arith, omega arith)
@@ -39,7 +38,7 @@ returns-then-s c =
 pub returns : goal.returns
 unfolding divisor_of
 returns c =
-    let n = c.Cells-of.ensures.0 in
+    let n = c.cells_of-n.ensures.0 in
     let r = c.summed-s in
     let e = r.ensures.0 ∙ ap (λ (k : ℕ). sum k (λ (i : ℕ). value (value_at c.args.values i))) n in
     (rw c.if-convolution.false (e ∙ or_same _ r.result.above r.result.below e c.if-s.false), r.ensures.1, r.ensures.2)

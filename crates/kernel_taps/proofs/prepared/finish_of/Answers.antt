@@ -1,7 +1,6 @@
 -- `kernel_taps::prepared::finish_of` meets its contract: field by field. Assumes nothing.
 use mathlib.Core.Path.{refl}
 use native.Mathlib.Omega.{arith}
-use borrow.Author.Rules.{rules}
 use Rattle.kernel_taps.proofs.prepared.finish_of.Goals as goal
 
 pub returns : goal.returns

@@ -2,7 +2,6 @@
 use mathlib.Core.Path.{◌≡◌, sym, ◌∙◌}
 use native.Mathlib.Omega.{arith}
 use lib.IntN.{pos}
-use borrow.Author.Rules.{rules}
 use Rattle.pixel.specs.Convolve.{bias_of}
 use Rattle.pixel.proofs.SignedSums.{Diff}
 use Rattle.kernel_lines.specs.Convolved.{value_at}

@@ -3,7 +3,6 @@ use Prim.Native.Nat.{◌-◌, ◌*◌, ◌/◌}
 use mathlib.Core.Path.{◌≡◌, sym, ◌∙◌}
 use native.Mathlib.Nat.{div-add-mod', mul_comm}
 use native.Mathlib.Omega.{arith}
-use borrow.Author.Rules.{rules}
 use Rattle.kernel_taps.proofs.WholeTaps.{never, far-le, scaled-by}
 use Rattle.kernel_taps.proofs.prepared.scale_of.Goals as goal
 
@@ -30,6 +29,3 @@ returns c =
     let whole : far ≡ s.unit * (far / s.unit) =
     omega (arith, div-add-mod' far s.unit, mul_comm s.unit (far / s.unit), c.if-far-unit-ne0.false) in
     record { le_size = (omega (arith, c.if-size-lt2.false), omega (arith, c.if-size-gt257.false)); scaled = λ g. scaled-by e.result s.d _ s.unit _ e.ensures (far-le e.result s.d e.ensures) whole }
-
--- no goal: rem-if1 : tie.Need-nonzero-rem-if1
--- rem-if1 c = search rules

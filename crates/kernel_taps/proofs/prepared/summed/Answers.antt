@@ -1,14 +1,9 @@
 -- `kernel_taps::prepared::summed` meets its contract: one value more in each turn. Assumes nothing.
-use Prim.Native.Nat.{ℕ, ◌-◌, ◌*◌, ◌≤◌}
 use mathlib.Core.Path.{◌≡◌, ap}
 use native.Mathlib.Omega.{arith}
-use borrow.Author.Rules.{rules}
 use Rattle.number.specs.Number.{value}
 use Rattle.number.specs.declared.Fixed.{Fixed}
 use Rattle.pixel.specs.Coefficient.{Allowed}
-use Rattle.pixel.specs.Convolve.{sum}
-use Rattle.pixel.proofs.SignedSums.{Diff}
-use Rattle.kernel_lines.specs.Convolved.{value_at}
 use Rattle.kernel_taps.proofs.WholeTaps.{diff_is, diff-more, diff-none}
 use Rattle.kernel_taps.proofs.prepared.summed.Goals as goal
 

@@ -1,14 +1,8 @@
-use Prim.Native.Nat.{ℕ, ◌-◌, ◌*◌, ◌≤◌}
-use mathlib.Core.Path.{◌≡◌, ap}
-use native.Mathlib.Omega.{arith}
-use borrow.Author.Rules.{rules}
+use Prim.Native.Nat.{ℕ, ◌*◌, ◌≤◌}
 use Rattle.number.specs.Number.{value}
-use Rattle.number.specs.declared.Fixed.{Fixed}
-use Rattle.pixel.specs.Coefficient.{Allowed}
 use Rattle.pixel.specs.Convolve.{sum}
 use Rattle.pixel.proofs.SignedSums.{Diff}
 use Rattle.kernel_lines.specs.Convolved.{value_at}
-use Rattle.kernel_taps.proofs.WholeTaps.{diff_is, diff-more, diff-none}
 use Rattle.kernel_taps.proofs.prepared.summed.Given as goal
 
 abbrev pub invariant-loop-i : goal.invariant-loop-i

@@ -1,5 +1,4 @@
 -- `kernel_taps::taps::is_whole` meets its contract: every refusal is false. Assumes nothing.
-use borrow.Author.Rules.{rules}
 use Rattle.kernel_taps.proofs.WholeTaps.{never}
 use Rattle.kernel_taps.proofs.taps.is_whole.Goals as goal
 
@@ -11,12 +10,3 @@ returns-then-u-unit-ne0-2 c = λ e. absurd (never e)
 
 pub returns-then-u-unit-gt257 : goal.returns-then-u-unit-gt257
 returns-then-u-unit-gt257 c = λ e. absurd (never e)
-
--- no goal: rem-if1 : tie.Need-nonzero-rem-if1
--- rem-if1 c = search rules
-
--- no goal: rem-if2 : tie.Need-nonzero-rem-if2
--- rem-if2 c = search rules
-
--- no goal: div-if3 : tie.Need-nonzero-div-if3
--- div-if3 c = search rules

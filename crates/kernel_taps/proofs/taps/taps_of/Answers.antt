@@ -1,9 +1,8 @@
 -- `kernel_taps::taps::taps_of` meets its contract: one weight more in each turn. Assumes nothing.
-use Prim.Native.Nat.{ℕ, ◌+◌, ◌-◌, ◌*◌, ◌/◌, ◌≤◌, ◌<◌}
+use Prim.Native.Nat.{ℕ, ◌+◌, ◌/◌, ◌<◌}
 use mathlib.Core.Path.{◌≡◌, refl, ◌∙◌, ap}
 use native.Mathlib.Omega.{arith}
-use lib.ListN.{length, get_or, length-set}
-use borrow.Author.Tests.{not-false}
+use lib.ListN.{length, length-set}
 use Rattle.window.specs.Window.{fold}
 use Rattle.number.specs.declared.Fixed.{Fixed}
 use Rattle.kernel_sums.proofs.SlidingSums.{fold_more}
@@ -33,7 +32,7 @@ nonzero_div-b c = c.requires.1
 
 pub wrapped-requires : goal.wrapped-requires
 wrapped-requires c =
-    let whole : Whole c.args.unit c.exchange-u.result = c.is_whole.ensures (not-false _ c.if-not-is_whole.false) in
+    let whole : Whole c.args.unit c.exchange-u.result = c.is_whole.ensures c.if-not-is_whole.false in
     let w = whole in (w.few_above, w.few_below)
 
 pub bounds-weights-t : goal.bounds-weights-t
@@ -41,21 +40,21 @@ bounds-weights-t c = c.loop-t-test.true
 
 pub overflow_add-lift : goal.overflow_add-lift
 overflow_add-lift c =
-    let whole : Whole c.args.unit c.exchange-u.result = c.is_whole.ensures (not-false _ c.if-not-is_whole.false) in
+    let whole : Whole c.args.unit c.exchange-u.result = c.is_whole.ensures c.if-not-is_whole.false in
     let w = whole in
     let L = c.loop-t in
     omega (arith, w.few_above, w.few_below, L.invariant.5, L.invariant.6)
 
 pub overflow_add-most : goal.overflow_add-most
 overflow_add-most c =
-    let whole : Whole c.args.unit c.exchange-u.result = c.is_whole.ensures (not-false _ c.if-not-is_whole.false) in
+    let whole : Whole c.args.unit c.exchange-u.result = c.is_whole.ensures c.if-not-is_whole.false in
     let w = whole in
     let L = c.loop-t in
     omega (arith, w.few_above, w.few_below, L.invariant.5, L.invariant.6)
 
 pub overflow_add-most-in-loop-t : goal.overflow_add-most-in-loop-t
 overflow_add-most-in-loop-t c =
-    let whole : Whole c.args.unit c.exchange-u.result = c.is_whole.ensures (not-false _ c.if-not-is_whole.false) in
+    let whole : Whole c.args.unit c.exchange-u.result = c.is_whole.ensures c.if-not-is_whole.false in
     let w = whole in
     let L = c.loop-t in
     omega (arith, w.few_above, w.few_below, L.invariant.5, L.invariant.6)
@@ -63,7 +62,7 @@ overflow_add-most-in-loop-t c =
 pub loop-t-preserved : goal.loop-t-preserved
 loop-t-preserved c =
     let is-tap : (let a = c.args in c.exchange-u.result ≡ tap_at a.convolution a.values a.negative c.loop-t.t) = c.exchange-u.ensures ∙ ap (exchanged c.args.negative) c.turned_at.ensures in
-    let whole : Whole c.args.unit c.exchange-u.result = c.is_whole.ensures (not-false _ c.if-not-is_whole.false) in
+    let whole : Whole c.args.unit c.exchange-u.result = c.is_whole.ensures c.if-not-is_whole.false in
     let L = c.loop-t in
     let a = c.args in
     let w = whole in

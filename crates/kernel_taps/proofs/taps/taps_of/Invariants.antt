@@ -1,13 +1,8 @@
-use Prim.Native.Nat.{ℕ, ◌+◌, ◌-◌, ◌*◌, ◌/◌, ◌≤◌, ◌<◌}
-use mathlib.Core.Path.{◌≡◌, refl, ◌∙◌, ap}
-use native.Mathlib.Omega.{arith}
-use lib.ListN.{length, get_or, length-set}
-use borrow.Author.Tests.{not-false}
+use Prim.Native.Nat.{ℕ, ◌+◌, ◌*◌, ◌/◌, ◌≤◌, ◌<◌}
+use mathlib.Core.Path.{◌≡◌}
+use lib.ListN.{length, get_or}
 use Rattle.window.specs.Window.{fold}
-use Rattle.number.specs.declared.Fixed.{Fixed}
-use Rattle.kernel_sums.proofs.SlidingSums.{fold_more}
-use Rattle.kernel_taps.specs.Taps.{exchanged, tap_at, Whole, Tap}
-use Rattle.kernel_taps.proofs.WholeTaps.{never, taps-more}
+use Rattle.kernel_taps.specs.Taps.{tap_at, Tap}
 use Rattle.kernel_taps.proofs.taps.taps_of.Given as goal
 
 abbrev pub invariant-loop-t : goal.invariant-loop-t

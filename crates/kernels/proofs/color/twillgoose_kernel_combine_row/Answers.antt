@@ -1,5 +1,4 @@
 -- `kernels::color::twillgoose_kernel_combine_row` meets its contract: the kernel's, for the coefficients that the plain numbers stand for. Assumes nothing.
-use borrow.Author.Rules.{rules}
 use Rattle.kernels.proofs.color.twillgoose_kernel_combine_row.Goals as goal
 
 pub arithmetic_row-requires : goal.arithmetic_row-requires

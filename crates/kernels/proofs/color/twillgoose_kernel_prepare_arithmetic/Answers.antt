@@ -1,5 +1,4 @@
 -- `kernels::color::twillgoose_kernel_prepare_arithmetic` meets its contract: the kernel's, for the coefficients that the plain numbers stand for. Assumes nothing.
-use borrow.Author.Rules.{rules}
 use Rattle.kernels.proofs.color.twillgoose_kernel_prepare_arithmetic.Goals as goal
 
 pub returns : goal.returns

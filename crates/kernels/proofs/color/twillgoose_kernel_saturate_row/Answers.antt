@@ -1,5 +1,4 @@
 -- `kernels::color::twillgoose_kernel_saturate_row` meets its contract: the kernel's, for the matrix that the plain numbers stand for. Assumes nothing.
-use borrow.Author.Rules.{rules}
 use Rattle.kernels.proofs.color.twillgoose_kernel_saturate_row.Goals as goal
 
 pub matrix_row-requires : goal.matrix_row-requires

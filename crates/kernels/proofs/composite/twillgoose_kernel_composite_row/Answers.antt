@@ -1,5 +1,4 @@
 -- `kernels::composite::twillgoose_kernel_composite_row` meets its contract: the kernel's, for the operator that the plain numbers stand for. Assumes nothing.
-use borrow.Author.Rules.{rules}
 use Rattle.kernels.proofs.composite.twillgoose_kernel_composite_row.Goals as goal
 
 pub returns : goal.returns

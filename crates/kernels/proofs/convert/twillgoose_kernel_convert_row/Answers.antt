@@ -1,5 +1,4 @@
 -- `kernels::convert::twillgoose_kernel_convert_row` meets its contract: the kernel's, for the space that the truth stands for. Assumes nothing.
-use borrow.Author.Rules.{rules}
 use Rattle.kernels.proofs.convert.twillgoose_kernel_convert_row.Goals as goal
 
 pub convert_row-requires : goal.convert_row-requires

@@ -1,5 +1,4 @@
 -- `kernels::convolve::twillgoose_kernel_convolve_row` meets its contract: the kernel's, for the convolution that the plain numbers stand for. Assumes nothing.
-use borrow.Author.Rules.{rules}
 use Rattle.kernels.proofs.convolve.twillgoose_kernel_convolve_row.Goals as goal
 
 pub convolve_row-requires : goal.convolve_row-requires

@@ -1,9 +1,7 @@
 -- `kernels::convolve::values_of` meets its contract: one number more in each turn. Assumes nothing.
-use Prim.Native.Nat.{◌-◌, ◌≤◌}
 use mathlib.Core.Path.{◌≡◌}
 use native.Mathlib.Omega.{arith}
-use Rattle.kernels.proofs.PairedNumbers.{Paired, paired_none, paired-more, paired-all}
-use borrow.Author.Rules.{rules}
+use Rattle.kernels.proofs.PairedNumbers.{paired_none, paired-more, paired-all}
 use Rattle.kernels.proofs.convolve.values_of.Goals as goal
 
 pub loop-i-init : goal.loop-i-init

@@ -1,5 +1,4 @@
 -- `kernels::morph::twillgoose_kernel_extreme_lines` meets its contract: the kernel's, for the extreme that the plain numbers stand for. Assumes nothing.
-use borrow.Author.Rules.{rules}
 use Rattle.kernels.proofs.morph.twillgoose_kernel_extreme_lines.Goals as goal
 
 pub returns : goal.returns

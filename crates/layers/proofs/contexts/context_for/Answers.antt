@@ -1,6 +1,5 @@
 -- `layers::contexts::context_for` meets its contract: what a table is worth plays no part in it. Assumes nothing.
 use mathlib.Core.Path.{refl}
-use borrow.Author.Rules.{rules}
 use Rattle.layers.proofs.contexts.context_for.Goals as goal
 
 pub returns : goal.returns

@@ -1,5 +1,5 @@
 -- `layers::steps::redraw_next` meets its contract: its rectangle is worked out from those so far, and drawn in its context. Assumes nothing.
-use mathlib.Core.Path.{sym, ap, ◌∙◌}
+use mathlib.Core.Path.{ap, ◌∙◌}
 use mathlib.Core.Bool.{Bool}
 use mathlib.Core.List.{List}
 use lib.ListN.{set}
@@ -10,7 +10,6 @@ use Rattle.filter.specs.declared.Input.TheVariants.{Source}
 use Rattle.damage.specs.InputRects.{rect_of}
 use Rattle.damage.proofs.DamagesSoFar.{within_more, all_within_more}
 use Rattle.layers.proofs.StepInContext.{context-ready, damage-is-inside, damage-of-step, context-redrawn}
-use borrow.Author.Rules.{rules}
 use Rattle.layers.proofs.steps.redraw_next.Goals as goal
 
 pub bounds-requires : goal.bounds-requires

@@ -1,13 +1,11 @@
 -- `layers::steps::redraw_step` meets its contract: its rectangle is drawn. Assumes nothing.
 use Rattle.layers.proofs.StepReplacesLayer.{redraw-replaces}
-use borrow.Author.Rules.{rules}
 use Rattle.layers.proofs.steps.redraw_step.Goals as goal
 
 pub draw-requires : goal.draw-requires
 draw-requires c =
-    let a = c.args in
     let R = c.requires.0 in
-    ((R.sized, R.scratch), ((R.inputs, R.earlier, R.bounded), c.requires.1.within))
+    record { sized = (R.sized, R.scratch); valid_inputs = (R.inputs, R.earlier, R.bounded); within = c.requires.1.within }
 
 pub returns : goal.returns
 returns c =

@@ -1,7 +1,6 @@
 -- `layers::steps::render_next` meets its contract: its layer is drawn in its context, and its space joins those so far. Assumes nothing.
 use native.Mathlib.Omega.{arith}
 use Rattle.layers.proofs.StepInContext.{context-ready, context-rendered}
-use borrow.Author.Rules.{rules}
 use Rattle.layers.proofs.steps.render_next.Goals as goal
 
 pub area-requires : goal.area-requires

@@ -1,5 +1,4 @@
 -- `pixel::bytes::joined` meets its contract: a packed pixel can be taken apart again. Assumes nothing.
-use borrow.Author.Rules.{rules}
 use Rattle.pixel.proofs.PackedPixels.{packed-by}
 use Rattle.pixel.proofs.bytes.joined.Goals as goal
 

@@ -1,6 +1,5 @@
 -- `pixel::bytes::put` meets its contract: four stores paint one pixel. Assumes nothing.
 use native.Mathlib.Omega.{arith}
-use borrow.Author.Rules.{rules}
 use lib.ListN.{length-set}
 use Rattle.pixel.proofs.PaintedRows.{painted-one}
 use Rattle.pixel.proofs.bytes.put.Goals as goal

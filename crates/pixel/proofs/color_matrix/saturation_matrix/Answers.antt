@@ -1,6 +1,5 @@
 -- `pixel::color_matrix::saturation_matrix` meets its contract. Each call gives its coefficient or its row. Assumes nothing.
 use mathlib.Core.Path.{refl}
-use borrow.Author.Rules.{rules}
 use Rattle.pixel.specs.Matrix.{saturation}
 use Rattle.pixel.proofs.Saturated.{saturation-allowed}
 use Rattle.pixel.proofs.color_matrix.saturation_matrix.Goals as goal

@@ -1,6 +1,5 @@
 -- `pixel::convert::convert` meets its contract: each colour is converted with its alpha. Assumes nothing.
 use mathlib.Core.Path.{sym, ◌∙◌}
-use borrow.Author.Rules.{rules}
 use Rattle.pixel.proofs.Converted.{converted-same, converted-pairs}
 use Rattle.pixel.proofs.convert.convert.Goals as goal
 

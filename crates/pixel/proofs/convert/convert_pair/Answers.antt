@@ -2,7 +2,6 @@
 use Prim.Native.Nat.{◌≤◌, ◌<◌}
 use mathlib.Core.Path.{sym}
 use native.Mathlib.Omega.{arith}
-use borrow.Author.Rules.{rules}
 use Rattle.pixel.proofs.Premultiplied.{unpremultiplied-is, unpremultiplied-byte}
 use Rattle.pixel.proofs.Converted.{pair-zero, pair-above}
 use Rattle.pixel.proofs.convert.convert_pair.Goals as goal

@@ -1,9 +1,4 @@
 -- `pixel::convert::entry` meets its contract. Assumes nothing.
-use mathlib.Core.Path.{◌∙◌, ap, sym}
-use lib.ListN.{get_or}
-use borrow.Author.Rules.{rules}
-use Rattle.pixel.specs.declared.Space as S
-use Rattle.pixel.specs.Space.{table_of}
 use Rattle.pixel.proofs.convert.entry.Goals as goal
 
 pub returns-in-Linear : goal.returns-in-Linear

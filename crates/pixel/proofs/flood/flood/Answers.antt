@@ -1,6 +1,5 @@
 -- `pixel::flood::flood` meets its contract. Each call gives its colour, which stays below the alpha. Assumes nothing.
 use mathlib.Core.Path.{refl}
-use borrow.Author.Rules.{rules}
 use Rattle.pixel.specs.Flood.{flooded}
 use Rattle.pixel.proofs.Flooded.{flooded-valid}
 use Rattle.pixel.proofs.flood.flood.Goals as goal

@@ -1,6 +1,5 @@
 -- `pixel::to_linear::linear` meets its contract: the table in the code is the table of the rules. Assumes nothing.
 use mathlib.Core.Path.{refl}
-use borrow.Author.Rules.{rules}
 use Rattle.pixel.specs.Space.{to_linear}
 use Rattle.pixel.proofs.to_linear.linear.Goals as goal
 

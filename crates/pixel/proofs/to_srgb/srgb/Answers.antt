@@ -1,6 +1,5 @@
 -- `pixel::to_srgb::srgb` meets its contract: the table in the code is the table of the rules. Assumes nothing.
 use mathlib.Core.Path.{refl}
-use borrow.Author.Rules.{rules}
 use Rattle.pixel.specs.Space.{to_srgb}
 use Rattle.pixel.proofs.to_srgb.srgb.Goals as goal
 

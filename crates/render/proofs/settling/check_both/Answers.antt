@@ -1,11 +1,9 @@
 -- `render::settling::check_both` meets its contract: the source, then the workspace. Assumes nothing.
-use mathlib.Core.Path.{◌≡◌, sym, ap, ◌∙◌}
-use Prim.Native.Nat.{ℕ, ◌*◌}
+use mathlib.Core.Path.{sym, ap, ◌∙◌}
 use native.Mathlib.Omega.{arith}
 use native.Mathlib.Nat.{mul-le-mul_right, mul_left_comm}
 use Rattle.filter.specs.Checks.{pixels_answer}
 use Rattle.render.proofs.RefusalOrder.{is-refused, is-passed, else-refused, else-passed, pixels-in}
-use borrow.Author.Rules.{rules}
 use Rattle.render.proofs.settling.check_both.Goals as goal
 
 pub returns-then-not-is_accepted : goal.returns-then-not-is_accepted

@@ -1,5 +1,4 @@
 -- `render::settling::check_changed` meets its contract: a redraw by its rectangle. Assumes nothing.
-use borrow.Author.Rules.{rules}
 use Rattle.render.proofs.settling.check_changed.Goals as goal
 
 pub returns-in-Redraw : goal.returns-in-Redraw

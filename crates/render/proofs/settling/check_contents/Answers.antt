@@ -1,5 +1,4 @@
 -- `render::settling::check_contents` meets its contract, call by call. Assumes nothing.
-use borrow.Author.Rules.{rules}
 use Rattle.render.proofs.settling.check_contents.Goals as goal
 
 pub returns-in-Render : goal.returns-in-Render

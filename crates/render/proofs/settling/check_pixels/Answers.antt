@@ -1,6 +1,5 @@
 -- `render::settling::check_pixels` meets its contract. Assumes nothing.
 use Rattle.render.proofs.RefusalOrder.{pixels-good, pixels-bad}
-use borrow.Author.Rules.{rules}
 use Rattle.render.proofs.settling.check_pixels.Goals as goal
 
 pub returns-then-p-w : goal.returns-then-p-w

@@ -1,7 +1,6 @@
 -- `render::settling::finish` meets its contract: cleared where the call was accepted. Assumes nothing.
-use mathlib.Core.Path.{◌≡◌, refl, sym, ◌∙◌}
+use mathlib.Core.Path.{refl, sym, ◌∙◌}
 use Rattle.render.proofs.PromisesKept.{if-accepted, if-refused}
-use borrow.Author.Rules.{rules}
 use Rattle.render.proofs.settling.finish.Goals as goal
 
 pub returns-then-is_accepted : goal.returns-then-is_accepted

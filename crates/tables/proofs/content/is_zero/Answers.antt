@@ -1,9 +1,7 @@
 -- `tables::content::is_zero` meets its contract: zero says that every byte passed is 0. Assumes nothing.
-use Prim.Native.Nat.{◌-◌, ◌≤◌}
 use mathlib.Core.Path.{◌≡◌, refl}
 use native.Mathlib.Omega.{arith}
 use lib.ListN.{length}
-use borrow.Author.Rules.{rules}
 use Rattle.tables.specs.Content.{zeros?}
 use Rattle.tables.proofs.SumsAndZeros.{zeros-more}
 use Rattle.tables.proofs.content.is_zero.Goals as goal

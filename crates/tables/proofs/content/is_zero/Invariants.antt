@@ -1,10 +1,6 @@
-use Prim.Native.Nat.{◌-◌, ◌≤◌}
-use mathlib.Core.Path.{◌≡◌, refl}
-use native.Mathlib.Omega.{arith}
-use lib.ListN.{length}
-use borrow.Author.Rules.{rules}
+use Prim.Native.Nat.{◌≤◌}
+use mathlib.Core.Path.{◌≡◌}
 use Rattle.tables.specs.Content.{zeros?}
-use Rattle.tables.proofs.SumsAndZeros.{zeros-more}
 use Rattle.tables.proofs.content.is_zero.Given as goal
 
 abbrev pub invariant-loop-i : goal.invariant-loop-i

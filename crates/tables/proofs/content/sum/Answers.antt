@@ -1,9 +1,7 @@
 -- `tables::content::sum` meets its contract: each turn takes one byte more. Assumes nothing.
-use Prim.Native.Nat.{◌-◌, ◌≤◌, ◌<◌}
 use mathlib.Core.Path.{◌≡◌, refl, ◌∙◌}
 use native.Mathlib.Omega.{arith}
 use lib.ListN.{length}
-use borrow.Author.Rules.{rules}
 use Rattle.tables.specs.Content.{sum_of}
 use Rattle.tables.proofs.SumsAndZeros.{sum_more}
 use Rattle.tables.proofs.content.sum.Goals as goal

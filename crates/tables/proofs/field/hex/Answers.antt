@@ -1,8 +1,7 @@
 -- `tables::field::hex` meets its contract: each turn takes one digit more. Assumes nothing.
-use Prim.Native.Nat.{ℕ, ◌+◌, ◌-◌, ◌*◌, ◌≤◌, ◌<◌}
+use Prim.Native.Nat.{ℕ, ◌+◌, ◌-◌, ◌*◌, ◌<◌}
 use mathlib.Core.Path.{◌≡◌, sym, ap, ap₂, ◌∙◌}
 use native.Mathlib.Omega.{arith}
-use borrow.Author.Rules.{rules}
 use Rattle.tables.specs.Hex.{hex_of}
 use Rattle.tables.proofs.HexDigits.{hex-none, hex-more, hex-room}
 use Rattle.tables.proofs.field.hex.Goals as goal

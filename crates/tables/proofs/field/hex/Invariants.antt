@@ -1,9 +1,6 @@
-use Prim.Native.Nat.{ℕ, ◌+◌, ◌-◌, ◌*◌, ◌≤◌, ◌<◌}
-use mathlib.Core.Path.{◌≡◌, sym, ap, ap₂, ◌∙◌}
-use native.Mathlib.Omega.{arith}
-use borrow.Author.Rules.{rules}
+use Prim.Native.Nat.{◌-◌, ◌≤◌}
+use mathlib.Core.Path.{◌≡◌}
 use Rattle.tables.specs.Hex.{hex_of}
-use Rattle.tables.proofs.HexDigits.{hex-none, hex-more, hex-room}
 use Rattle.tables.proofs.field.hex.Given as goal
 
 abbrev pub invariant-loop-i : goal.invariant-loop-i

@@ -1,5 +1,4 @@
 -- `text::documents::is_side` meets its contract. By cases. Assumes nothing.
-use borrow.Author.Rules.{rules}
 use Rattle.text.proofs.documents.is_side.Goals as goal
 
 pub returns-in-Is : goal.returns-in-Is

@@ -1,8 +1,8 @@
 -- `text::documents::row_in` meets its contract. By the four tests; a row has room behind the rows before. Assumes nothing.
 use mathlib.Core.Path.{sym, ◌∙◌}
-use borrow.Author.Tests.{not-true, not-false}
 use Rattle.text.proofs.LineAdded.{row-line-room, row-late, row-wide, row_word_is, row-pixels, row-good}
 use borrow.Author.Rules.{rules}
+use borrow.Author.Tests.{not-true, not-false}
 use native.Mathlib.Omega.{arith}
 use Rattle.text.proofs.documents.row_in.Goals as goal
 
@@ -13,7 +13,7 @@ pub returns-then-count-n : goal.returns-then-count-n
 returns-then-count-n c = row-wide _ _ c.not_extended-then-count-n.ensures c.count.ensures c.if-count-n.true
 
 pub returns-then-not-equals : goal.returns-then-not-equals
-returns-then-not-equals c = row_word_is _ _ c.not_extended-then-not-equals.ensures c.field.ensures c.equals.ensures (not-true _ c.if-not-equals.true)
+returns-then-not-equals c = row_word_is _ _ c.not_extended-then-not-equals.ensures c.field.ensures c.equals.ensures c.if-not-equals.true
 
 pub overflow_mul-at : goal.overflow_mul-at
 overflow_mul-at c = omega (arith, row-line-room c.args.document c.requires (search rules))
@@ -32,7 +32,4 @@ with_row-requires c = omega (arith, c.requires.high, c.requires.some)
 
 pub returns : goal.returns
 returns c =
-    row-good _ _ (search rules) c.count.ensures c.if-count-n.false c.field.ensures c.equals.ensures (not-false _ c.if-not-equals.false) c.stored_pixels-r.ensures (not-false _ c.if-not-r.false) c.with_row.ensures
-
--- no goal: slice-aggregate-equals : tie.Need-slice-aggregate-equals
--- slice-aggregate-equals c = search rules
+    row-good _ _ (search rules) c.count.ensures c.if-count-n.false c.field.ensures c.equals.ensures c.if-not-equals.false c.stored_pixels-r.ensures (not-false _ c.if-not-r.false) c.with_row.ensures

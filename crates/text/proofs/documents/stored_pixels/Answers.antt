@@ -1,16 +1,14 @@
 -- `text::documents::stored_pixels` meets its contract. The loop keeps that the pixels so far are stored one after another. Assumes nothing.
 use mathlib.Core.Path.{◌≡◌, sym, ap, ◌∙◌}
 use mathlib.Core.List.{[]}
-use Prim.Native.Nat.{◌-◌}
 use lib.ListN.{length, drop, length-drop}
 use lib.Seq.{get_or-drop}
 use Rattle.text_field.specs.Split.{split}
 use Rattle.text_field.specs.Field.{hex_of, given?}
 use Rattle.text_field.proofs.DigitNumbers.{below_of, hex-below}
-use Rattle.filter.specs.Limits.{text_picture}
 use Rattle.text_step.specs.ManyFields.{flattened}
 use Rattle.text.specs.Document.{pixel?, pixel_of}
-use Rattle.text_step.proofs.FieldsGathered.{FieldsGathered, fields-gathered-none, fields-gathered-bad, fields-gathered-all}
+use Rattle.text_step.proofs.FieldsGathered.{fields-gathered-none, fields-gathered-bad, fields-gathered-all}
 use Rattle.text_step.proofs.StoredBytes.{stored-none, stored-length}
 use Rattle.text.proofs.LineAdded.{held, pixels-bad, pixels-end, pixels-more}
 use borrow.Author.Rules.{rules}

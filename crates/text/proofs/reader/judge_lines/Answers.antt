@@ -2,10 +2,6 @@
 use Rattle.text.proofs.LineAdded.{sized-empty}
 use Rattle.text.proofs.LinesScanned.{alone}
 use borrow.Author.Rules.{rules}
-use Rattle.text.proofs.reader.judge_lines.Reads as reads
-use Rattle.text.proofs.reader.judge_lines.Lts as lts
-use Rattle.text.proofs.Document.empty.Reads as empty-reads
-use Rattle.text.proofs.reader.lines_of.Reads as lines-of-reads
 use Rattle.text.proofs.reader.judge_lines.Goals as goal
 
 pub lines_of-requires : goal.lines_of-requires

@@ -3,13 +3,6 @@ use borrow.Author.Tests.{not-true, not-false}
 use Rattle.text.proofs.LineAdded.{sized-empty, canvas-small}
 use Rattle.text.proofs.LinesScanned.{text-long, text-open, text-canvas, text-lines}
 use borrow.Author.Rules.{rules}
-use Rattle.text.proofs.reader.judge_sheet.Reads as reads
-use Rattle.text.proofs.reader.judge_sheet.Lts as lts
-use Rattle.text.proofs.Document.empty.Reads as empty-reads
-use Rattle.text.proofs.documents.canvas_in.Reads as canvas-of-reads
-use Rattle.text.proofs.reader.lines_of.Reads as lines-of-reads
-use Rattle.text.proofs.reader.refuse.Reads as refuse-reads
-use Rattle.text_field.proofs.lines.find.Reads as find-reads
 use Rattle.text.proofs.reader.judge_sheet.Goals as goal
 
 pub returns-then-text-gt-TEXT : goal.returns-then-text-gt-TEXT

@@ -1,6 +1,6 @@
 -- `text::reader::last_space` meets its contract. The loop keeps that line n begins at `at`. Assumes nothing.
 use mathlib.Core.Path.{◌≡◌, sym, ap, ◌∙◌}
-use Prim.Native.Nat.{ℕ, ◌-◌, ◌≤◌}
+use Prim.Native.Nat.{ℕ, ◌-◌}
 use native.Mathlib.Omega.{arith}
 use lib.ListN.{get_or}
 use Rattle.filter.specs.declared.Step.{Step}
@@ -8,10 +8,6 @@ use Rattle.filter.specs.Steps.{blank_step}
 use Rattle.text.specs.Reading.{steps_in, line_at, line_after}
 use Rattle.text.proofs.Stepped.{step-inside, line-next, line-none}
 use borrow.Author.Rules.{rules}
-use Rattle.text.proofs.reader.last_space.Reads as reads
-use Rattle.text.proofs.reader.last_space.Lts as lts
-use Rattle.text.proofs.reader.line_after.Reads as line-after-reads
-use Rattle.text.proofs.reader.step_from.Reads as step-from-reads
 use Rattle.text.proofs.reader.last_space.Goals as goal
 
 pub loop-n-init : goal.loop-n-init

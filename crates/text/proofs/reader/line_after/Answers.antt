@@ -1,9 +1,6 @@
 -- `text::reader::line_after` meets its contract. A line feed stands before the end of the text. Assumes nothing.
 use Rattle.text_field.proofs.SplitByIndex.{piece-le}
 use borrow.Author.Rules.{rules}
-use Rattle.text.proofs.reader.line_after.Reads as reads
-use Rattle.text.proofs.reader.line_after.Lts as lts
-use Rattle.text_field.proofs.lines.find.Reads as find-reads
 use Rattle.text.proofs.reader.line_after.Goals as goal
 
 pub overflow_add-result : goal.overflow_add-result

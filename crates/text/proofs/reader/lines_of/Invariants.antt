@@ -1,13 +1,8 @@
-use mathlib.Core.Path.{ap}
 use Prim.Native.Nat.{◌-◌}
 use lib.ListN.{length, drop}
-use borrow.Author.Tests.{not-true, not-false}
 use Rattle.text_field.specs.Split.{split}
 use Rattle.text.specs.Code.{DocumentFits, extends?, extended, ended, refused_at, document_lines}
-use Rattle.text.specs.declared.Extended.{Extended}
-use Rattle.text.proofs.LineAdded.{sized-line}
-use Rattle.text.proofs.LinesScanned.{Scanned, scanned-none, scanned-bad, scanned-more, scanned-open, scanned-end, ended-short, ended-whole}
-use borrow.Author.Rules.{rules}
+use Rattle.text.proofs.LinesScanned.{Scanned}
 use Rattle.text.proofs.reader.lines_of.Given as goal
 
 abbrev pub invariant-loop-e : goal.invariant-loop-e

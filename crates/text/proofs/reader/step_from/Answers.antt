@@ -5,11 +5,6 @@ use Rattle.text_field.proofs.SplitByIndex.{piece-le}
 use Rattle.text_step.specs.declared.StepLine.{StepLine}
 use Rattle.text.specs.Reading.{line_at}
 use Rattle.text.proofs.Stepped.{step-inside, step_is}
-use borrow.Author.Rules.{rules}
-use Rattle.text.proofs.reader.step_from.Reads as reads
-use Rattle.text.proofs.reader.step_from.Lts as lts
-use Rattle.text_field.proofs.lines.find.Reads as find-reads
-use Rattle.text_step.proofs.step_lines.step_of.Reads as step-of-reads
 use Rattle.text.proofs.reader.step_from.Goals as goal
 
 pub find-e-requires : goal.find-e-requires
@@ -22,5 +17,5 @@ slice_bounds-step_of-end c =
 
 pub returns : goal.returns
 returns c =
-    ap (λ (x : StepLine). x.step) c.step_of_lem.ensures
+    ap (λ (x : StepLine). x.step) c.step_of-s.ensures
     ∙ step_is c.args.form c.args.text.now _ _ c.requires.0 (c.requires.2 ∙ ap (λ (k : ℕ). line_at c.args.text.now k c.args.n) c.requires.1) _ c.find-e.ensures

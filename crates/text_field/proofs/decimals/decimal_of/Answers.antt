@@ -2,7 +2,6 @@
 use mir.Syntax.{w64}
 use mir.Facts.{to_z_pos, to_z-of_z}
 use native.Mathlib.Omega.{arith}
-use borrow.Author.Rules.{rules}
 use Rattle.text_field.proofs.DigitNumbers.{below_of}
 use Rattle.text_field.proofs.NumberFields.{below-zero, minus-of}
 use Rattle.text_field.proofs.decimals.decimal_of.Goals as goal

@@ -1,7 +1,6 @@
 -- `text_field::decimals::fraction` meets its contract. Up to 4 digits stay below 10,000. Assumes nothing.
 use mathlib.Core.Path.{◌∙◌}
 use lib.Dec.{lit≤}
-use borrow.Author.Rules.{rules}
 use Rattle.text_field.specs.Field.{fraction_of}
 use Rattle.text_field.proofs.DigitNumbers.{digits-below}
 use Rattle.text_field.proofs.decimals.fraction.Goals as goal

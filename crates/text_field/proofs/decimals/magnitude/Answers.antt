@@ -1,6 +1,5 @@
 -- `text_field::decimals::magnitude` meets its contract. By cases on the point. Assumes nothing.
 use lib.Dec.{lit<}
-use borrow.Author.Rules.{rules}
 use Rattle.text_field.proofs.DigitNumbers.{natural-below}
 use Rattle.text_field.proofs.NumberFields.{fraction-below, magnitude-point, magnitude-whole}
 use Rattle.text_field.proofs.decimals.magnitude.Goals as goal

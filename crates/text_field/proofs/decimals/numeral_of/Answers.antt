@@ -1,6 +1,5 @@
 -- `text_field::decimals::numeral_of` meets its contract. By cases on the first byte. Assumes nothing.
 use mathlib.Core.Path.{sym}
-use borrow.Author.Rules.{rules}
 use Rattle.text_field.proofs.DigitNumbers.{hex-below}
 use Rattle.text_field.proofs.NumberFields.{magnitude-below, number-empty, number-single, number-minus, number-plus}
 use Rattle.text_field.proofs.decimals.numeral_of.Goals as goal
@@ -12,7 +11,7 @@ pub single_of-requires : goal.single_of-requires
 single_of-requires c = rw c.hex.ensures (hex-below _)
 
 pub returns-then-first-eq120 : goal.returns-then-first-eq120
-returns-then-first-eq120 c = number-single _ c.if-first-eq120.true c.hex.ensures c.Single-of.ensures
+returns-then-first-eq120 c = number-single _ c.if-first-eq120.true c.hex.ensures c.single_of.ensures
 
 pub decimal_of-requires : goal.decimal_of-requires
 decimal_of-requires c = rw c.magnitude.ensures (magnitude-below _)

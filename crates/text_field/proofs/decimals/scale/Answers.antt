@@ -1,7 +1,6 @@
 -- `text_field::decimals::scale` meets its contract. The number is below 10,000, so the product fits. Assumes nothing.
 use native.Mathlib.Nat.{mul-le-mul_left}
 use native.Mathlib.Omega.{arith}
-use borrow.Author.Rules.{rules}
 use Rattle.text_field.proofs.DigitNumbers.{below_of}
 use Rattle.text_field.proofs.decimals.scale.Goals as goal
 

@@ -1,6 +1,5 @@
 -- `text_field::decimals::single_of` meets its contract. Eight hex digits fit 32 bits. Assumes nothing.
 use native.Mathlib.Omega.{arith}
-use borrow.Author.Rules.{rules}
 use Rattle.text_field.proofs.DigitNumbers.{below_of}
 use Rattle.text_field.proofs.decimals.single_of.Goals as goal
 

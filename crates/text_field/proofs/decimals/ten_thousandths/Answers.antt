@@ -1,6 +1,5 @@
 -- `text_field::decimals::ten_thousandths` meets its contract. Both parts are bounded, so the sum fits. Assumes nothing.
 use native.Mathlib.Omega.{arith}
-use borrow.Author.Rules.{rules}
 use Rattle.text_field.proofs.DigitNumbers.{below_of}
 use Rattle.text_field.proofs.decimals.ten_thousandths.Goals as goal
 

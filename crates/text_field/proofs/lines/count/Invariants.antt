@@ -1,10 +1,6 @@
-use mathlib.Core.Path.{refl}
 use Prim.Native.Nat.{◌-◌}
 use lib.ListN.{length}
-use mathlib.Core.Logic.{⊎_elim}
-use borrow.Author.Rules.{rules}
-use native.Mathlib.Omega.{arith}
-use Rattle.text_field.proofs.SplitByIndex.{Counted, counted-hit, counted-miss, counted-end}
+use Rattle.text_field.proofs.SplitByIndex.{Counted}
 use Rattle.text_field.proofs.lines.count.Given as goal
 
 abbrev pub invariant-loop-i : goal.invariant-loop-i

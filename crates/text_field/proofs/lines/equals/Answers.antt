@@ -1,10 +1,8 @@
 -- `text_field::lines::equals` meets its contract. The loop keeps that the rests are the same word where the wholes are. Assumes nothing.
 use mathlib.Core.Path.{refl, sym}
-use Prim.Native.Nat.{◌-◌}
-use lib.ListN.{length}
 use borrow.Author.Rules.{rules}
 use native.Mathlib.Omega.{arith}
-use Rattle.text_field.proofs.SameWords.{same-differ, Matched, matched-less, matched-more, matched-end}
+use Rattle.text_field.proofs.SameWords.{same-differ, matched-less, matched-more, matched-end}
 use Rattle.text_field.proofs.lines.equals.Goals as goal
 
 pub returns-then-f-w : goal.returns-then-f-w

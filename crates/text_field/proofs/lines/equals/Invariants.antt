@@ -1,9 +1,6 @@
-use mathlib.Core.Path.{refl, sym}
 use Prim.Native.Nat.{◌-◌}
 use lib.ListN.{length}
-use borrow.Author.Rules.{rules}
-use native.Mathlib.Omega.{arith}
-use Rattle.text_field.proofs.SameWords.{same-differ, Matched, matched-less, matched-more, matched-end}
+use Rattle.text_field.proofs.SameWords.{Matched}
 use Rattle.text_field.proofs.lines.equals.Given as goal
 
 abbrev pub invariant-loop-i : goal.invariant-loop-i

@@ -1,8 +1,7 @@
 -- `text_field::lines::field` meets its contract. The loop keeps that field i - k of the rest is field i of the line. Assumes nothing.
-use Prim.Native.Nat.{◌-◌}
 use borrow.Author.Rules.{rules}
 use native.Mathlib.Omega.{arith}
-use Rattle.text_field.proofs.SplitByIndex.{Walked, walked_start, walked-out, walked_more, walked_end}
+use Rattle.text_field.proofs.SplitByIndex.{walked_start, walked-out, walked_more, walked_end}
 use Rattle.text_field.proofs.lines.field.Goals as goal
 
 pub loop-k-init : goal.loop-k-init

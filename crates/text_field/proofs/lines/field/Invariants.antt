@@ -1,7 +1,5 @@
 use Prim.Native.Nat.{◌-◌}
-use borrow.Author.Rules.{rules}
-use native.Mathlib.Omega.{arith}
-use Rattle.text_field.proofs.SplitByIndex.{Walked, walked_start, walked-out, walked_more, walked_end}
+use Rattle.text_field.proofs.SplitByIndex.{Walked}
 use Rattle.text_field.proofs.lines.field.Given as goal
 
 abbrev pub invariant-loop-k : goal.invariant-loop-k

@@ -1,9 +1,7 @@
 -- `text_field::lines::find` meets its contract. The loop keeps that the rest has its first d where the whole has it. Assumes nothing.
 use mathlib.Core.Path.{refl}
-use Prim.Native.Nat.{◌-◌}
-use lib.ListN.{length}
 use borrow.Author.Rules.{rules}
-use Rattle.text_field.proofs.SplitByIndex.{Finding, finding-more, finding-hit, finding-end}
+use Rattle.text_field.proofs.SplitByIndex.{finding-more, finding-hit, finding-end}
 use Rattle.text_field.proofs.lines.find.Goals as goal
 
 pub loop-i-init : goal.loop-i-init

@@ -1,8 +1,6 @@
-use mathlib.Core.Path.{refl}
 use Prim.Native.Nat.{◌-◌}
 use lib.ListN.{length}
-use borrow.Author.Rules.{rules}
-use Rattle.text_field.proofs.SplitByIndex.{Finding, finding-more, finding-hit, finding-end}
+use Rattle.text_field.proofs.SplitByIndex.{Finding}
 use Rattle.text_field.proofs.lines.find.Given as goal
 
 abbrev pub invariant-loop-i : goal.invariant-loop-i

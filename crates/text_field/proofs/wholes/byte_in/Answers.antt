@@ -1,5 +1,4 @@
 -- `text_field::wholes::byte_in` meets its contract. By the test against 255. Assumes nothing.
-use borrow.Author.Rules.{rules}
 use borrow.Author.Tests.{le-leb, lt-leb}
 use Rattle.text_field.proofs.wholes.byte_in.Goals as goal
 

@@ -1,11 +1,9 @@
 -- `text_field::wholes::digits` meets its contract. The loop keeps that the rest read on from n is the whole read from 0, and that n fits its digits. Assumes nothing.
 use native.Mathlib.Nat.{pow-zero}
 use mathlib.Core.Path.{refl, sym}
-use Prim.Native.Nat.{◌-◌}
-use lib.ListN.{length}
 use borrow.Author.Rules.{rules}
 use native.Mathlib.Omega.{arith}
-use Rattle.text_field.proofs.DigitNumbers.{place-small, place-times, digits-none, digits_long, Counting, counting_more, counting-other, counting-end}
+use Rattle.text_field.proofs.DigitNumbers.{place-small, place-times, digits-none, digits_long, counting_more, counting-other, counting-end}
 use Rattle.text_field.proofs.wholes.digits.Goals as goal
 
 pub returns-then-f-eq0 : goal.returns-then-f-eq0

@@ -1,6 +1,5 @@
 -- `text_field::wholes::hex` meets its contract. By the length. Assumes nothing.
 use mathlib.Core.Path.{sym, ◌∙◌}
-use borrow.Author.Rules.{rules}
 use Rattle.text_field.proofs.DigitNumbers.{hex-not, hex-is}
 use Rattle.text_field.proofs.wholes.hex.Goals as goal
 

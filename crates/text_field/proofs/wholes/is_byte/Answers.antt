@@ -3,7 +3,6 @@ use mathlib.Core.Path.{◌≡◌, refl}
 use mathlib.Core.Bool.{Bool, true, false, cond}
 use Prim.Native.Nat.{ℕ}
 use lib.Dec.{leb}
-use borrow.Author.Rules.{rules}
 use Rattle.text_field.specs.Field.{given?}
 use Rattle.text_field.specs.declared.Amount.TheVariants.{Is, Not}
 use Rattle.text_field.proofs.wholes.is_byte.Goals as goal

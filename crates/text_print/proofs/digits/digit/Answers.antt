@@ -1,6 +1,5 @@
 -- `text_print::digits::digit` meets its contract. Assumes nothing.
 use mathlib.Core.Path.{sym}
-use borrow.Author.Rules.{rules}
 use Rattle.text_print.proofs.DecimalDigits.{digit_low, digit-high}
 use Rattle.text_print.proofs.digits.digit.Goals as goal
 

@@ -2,7 +2,6 @@
 use mathlib.Core.Path.{ap}
 use mathlib.Core.List.{[], ◌∷◌}
 use Prim.Native.Nat.{ℕ}
-use borrow.Author.Rules.{rules}
 use Rattle.text_print.proofs.PutTexts.{put_as}
 use Rattle.text_print.proofs.digits.put_digit.Goals as goal
 

@@ -1,10 +1,7 @@
 -- `text_print::digits::put_word` meets its contract. The loop keeps that the first i bytes are stored. Assumes nothing.
-use mathlib.Core.Path.{◌≡◌, refl}
-use Prim.Native.Nat.{◌+◌, ◌-◌, ◌≤◌}
+use mathlib.Core.Path.{refl}
 use native.Mathlib.Omega.{arith}
-use lib.ListN.{length, take}
 use borrow.Author.Rules.{rules}
-use Rattle.text_print.specs.Code.{Put}
 use Rattle.text_print.proofs.PutTexts.{word_none, word_more, word-all}
 use Rattle.text_print.proofs.digits.put_word.Goals as goal
 

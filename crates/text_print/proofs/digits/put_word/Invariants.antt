@@ -1,10 +1,7 @@
-use mathlib.Core.Path.{◌≡◌, refl}
+use mathlib.Core.Path.{◌≡◌}
 use Prim.Native.Nat.{◌+◌, ◌-◌, ◌≤◌}
-use native.Mathlib.Omega.{arith}
 use lib.ListN.{length, take}
-use borrow.Author.Rules.{rules}
 use Rattle.text_print.specs.Code.{Put}
-use Rattle.text_print.proofs.PutTexts.{word_none, word_more, word-all}
 use Rattle.text_print.proofs.digits.put_word.Given as goal
 
 abbrev pub invariant-loop-i : goal.invariant-loop-i

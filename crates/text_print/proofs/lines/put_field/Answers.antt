@@ -2,7 +2,6 @@
 use mathlib.Core.Path.{ap}
 use mathlib.Core.List.{◌∷◌}
 use native.Mathlib.Omega.{arith}
-use borrow.Author.Rules.{rules}
 use Rattle.pixel.specs.declared.Pixel.{Pixel}
 use Rattle.text_print.specs.Digits.{hex_pixel}
 use Rattle.text_print.proofs.PutTexts.{put_as, put_then}

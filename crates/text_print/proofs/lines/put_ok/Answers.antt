@@ -1,6 +1,5 @@
 -- `text_print::lines::put_ok` meets its contract. Assumes nothing.
 use native.Mathlib.Omega.{arith}
-use borrow.Author.Rules.{rules}
 use Rattle.filter.specs.Bytes.{read}
 use Rattle.text_print.specs.Output.{in_srgb}
 use Rattle.text_print.proofs.PrintedRows.{ok-put, ok-length}
@@ -19,6 +18,3 @@ put_rows-requires c =
 pub returns : goal.returns
 returns c =
     ok-put _ _ _ c.put_word-end.ensures c.put_byte-rows.ensures c.put_rows.ensures c.requires.layer_in_bounds
-
--- no goal: slice-aggregate-put-word : tie.Need-slice-aggregate-put-word
--- slice-aggregate-put-word c = search rules

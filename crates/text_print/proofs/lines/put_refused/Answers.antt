@@ -1,6 +1,5 @@
 -- `text_print::lines::put_refused` meets its contract. Assumes nothing.
 use native.Mathlib.Omega.{arith}
-use borrow.Author.Rules.{rules}
 use Rattle.text_print.proofs.PrintedRows.{refused-put, refused-length}
 use Rattle.text_print.proofs.lines.put_refused.Goals as goal
 
@@ -19,6 +18,3 @@ put_byte-requires c = omega (arith, refused-length c.args.number c.args.place)
 pub returns : goal.returns
 returns c =
     refused-put c.args.number c.args.place c.put_word-word.ensures c.put_number-first.ensures c.put_number-second.ensures c.put_byte.ensures c.requires
-
--- no goal: slice-aggregate-put-word : tie.Need-slice-aggregate-put-word
--- slice-aggregate-put-word c = search rules

@@ -1,11 +1,9 @@
 -- `text_print::lines::put_row` meets its contract. The loop keeps that x pixels are stored after the word. Assumes nothing.
 use mathlib.Core.Path.{refl}
-use Prim.Native.Nat.{◌-◌}
 use native.Mathlib.Omega.{arith}
 use borrow.Author.Rules.{rules}
-use Rattle.text_print.specs.Code.{row_from}
-use Rattle.text_print.proofs.PrintedRows.{row_put, cells, cell-length}
-use Rattle.text_print.proofs.PutTexts.{putting-end, Putting, putting-none, putting-room, putting-more, putting-all}
+use Rattle.text_print.proofs.PrintedRows.{row_put, cell-length}
+use Rattle.text_print.proofs.PutTexts.{putting-end, putting-none, putting-room, putting-more, putting-all}
 use Rattle.text_print.proofs.lines.put_row.Goals as goal
 
 pub loop-x-init : goal.loop-x-init
@@ -23,6 +21,3 @@ put_byte-requires c = omega (arith, putting-end _ _ _ _ _ _ _ _ c.loop-x.invaria
 pub returns : goal.returns
 returns c =
     row_put _ _ c.put_word-end.ensures (putting-all _ _ _ _ _ _ _ _ c.loop-x.invariant (search rules)) c.put_byte.ensures (search rules)
-
--- no goal: slice-aggregate-put-word : tie.Need-slice-aggregate-put-word invariant-loop decreases-loop
--- slice-aggregate-put-word c = search rules

@@ -1,10 +1,7 @@
-use mathlib.Core.Path.{refl}
 use Prim.Native.Nat.{◌-◌}
-use native.Mathlib.Omega.{arith}
-use borrow.Author.Rules.{rules}
 use Rattle.text_print.specs.Code.{row_from}
-use Rattle.text_print.proofs.PrintedRows.{row_put, cells, cell-length}
-use Rattle.text_print.proofs.PutTexts.{putting-end, Putting, putting-none, putting-room, putting-more, putting-all}
+use Rattle.text_print.proofs.PrintedRows.{cells}
+use Rattle.text_print.proofs.PutTexts.{Putting}
 use Rattle.text_print.proofs.lines.put_row.Given as goal
 
 abbrev pub invariant-loop-x : goal.invariant-loop-x

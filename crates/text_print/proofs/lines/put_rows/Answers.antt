@@ -1,11 +1,10 @@
 -- `text_print::lines::put_rows` meets its contract. The loop keeps that y lines are stored. Assumes nothing.
-use Prim.Native.Nat.{◌+◌, ◌-◌, ◌*◌}
 use native.Mathlib.Omega.{arith}
 use borrow.Author.Rules.{rules}
 use Rattle.filter.specs.Bytes.{read}
 use Rattle.text_print.specs.Output.{row_lines, in_srgb}
-use Rattle.text_print.proofs.PutTexts.{Putting, putting-none, putting-room, putting-more, putting-all}
-use Rattle.text_print.proofs.PrintedRows.{rows, rows-length, row_read, row-end, lines-length}
+use Rattle.text_print.proofs.PutTexts.{putting-none, putting-room, putting-more, putting-all}
+use Rattle.text_print.proofs.PrintedRows.{rows-length, row_read, row-end, lines-length}
 use Rattle.text_print.proofs.lines.put_rows.Goals as goal
 
 pub loop-y-init : goal.loop-y-init

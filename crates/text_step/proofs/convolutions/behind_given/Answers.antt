@@ -1,6 +1,5 @@
 -- `text_step::convolutions::behind_given` meets its contract. The four fields. Assumes nothing.
 use mathlib.Core.Path.{◌∙◌}
-use borrow.Author.Rules.{rules}
 use Rattle.text_step.proofs.convolutions.behind_given.Goals as goal
 
 pub returns : goal.returns

@@ -1,7 +1,6 @@
 -- `text_step::convolutions::convolution_of` meets its contract. The orders say how many values there are. Assumes nothing.
 use mathlib.Core.Path.{◌∙◌}
 use Rattle.text_step.specs.Convolutions.{convolution_of}
-use borrow.Author.Rules.{rules}
 use Rattle.text_step.proofs.convolutions.convolution_of.Goals as goal
 
 pub returns : goal.returns

@@ -1,7 +1,6 @@
 -- `text_step::convolutions::edge_of` meets its contract. By the word. Assumes nothing.
 use mathlib.Core.Path.{sym, ◌∙◌}
 use Rattle.text_step.specs.Convolutions.{edge_of}
-use borrow.Author.Rules.{rules}
 use Rattle.text_step.proofs.convolutions.edge_of.Goals as goal
 
 pub returns-then-equals : goal.returns-then-equals
@@ -15,9 +14,3 @@ returns-then-equals-2 c = rw (sym c.equals.ensures ∙ c.if-equals.false, sym c.
 pub returns : goal.returns
 unfolding edge_of
 returns c = rw (sym c.equals.ensures ∙ c.if-equals.false, sym c.equals-2.ensures ∙ c.if-equals-2.false)
-
--- no goal: slice-aggregate-equals : tie.Need-slice-aggregate-equals
--- slice-aggregate-equals c = search rules
-
--- no goal: slice-aggregate-equals-2 : tie.Need-slice-aggregate-equals-2
--- slice-aggregate-equals-2 c = search rules

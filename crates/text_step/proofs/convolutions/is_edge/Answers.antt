@@ -1,7 +1,6 @@
 -- `text_step::convolutions::is_edge` meets its contract. By the three words. Assumes nothing.
 use mathlib.Core.Path.{sym, ◌∙◌}
 use Rattle.text_step.specs.Convolutions.{edge?}
-use borrow.Author.Rules.{rules}
 use Rattle.text_step.proofs.convolutions.is_edge.Goals as goal
 
 pub returns-then-equals : goal.returns-then-equals
@@ -15,12 +14,3 @@ returns-then-equals-2 c = rw (sym c.equals.ensures ∙ c.if-equals.false, sym c.
 pub returns : goal.returns
 unfolding edge?
 returns c = c.equals-3.ensures ∙ rw (sym c.equals.ensures ∙ c.if-equals.false, sym c.equals-2.ensures ∙ c.if-equals-2.false)
-
--- no goal: slice-aggregate-equals : tie.Need-slice-aggregate-equals
--- slice-aggregate-equals c = search rules
-
--- no goal: slice-aggregate-equals-2 : tie.Need-slice-aggregate-equals-2
--- slice-aggregate-equals-2 c = search rules
-
--- no goal: slice-aggregate-equals-3 : tie.Need-slice-aggregate-equals-3
--- slice-aggregate-equals-3 c = search rules

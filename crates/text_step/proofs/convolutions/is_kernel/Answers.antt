@@ -1,6 +1,5 @@
 -- `text_step::convolutions::is_kernel` meets its contract. The orders, and the fields behind the numbers. Assumes nothing.
 use mathlib.Core.Path.{◌∙◌}
-use borrow.Author.Rules.{rules}
 use Rattle.text_step.proofs.convolutions.is_kernel.Goals as goal
 
 pub returns : goal.returns

@@ -1,7 +1,6 @@
 -- `text_step::convolutions::is_truth` meets its contract. By the two words. Assumes nothing.
 use mathlib.Core.Path.{sym, ◌∙◌}
 use Rattle.text_step.specs.Convolutions.{truth?}
-use borrow.Author.Rules.{rules}
 use Rattle.text_step.proofs.convolutions.is_truth.Goals as goal
 
 pub returns-then-equals : goal.returns-then-equals
@@ -11,9 +10,3 @@ returns-then-equals c = rw (sym c.equals.ensures ∙ c.if-equals.true)
 pub returns : goal.returns
 unfolding truth?
 returns c = c.equals-2.ensures ∙ rw (sym c.equals.ensures ∙ c.if-equals.false)
-
--- no goal: slice-aggregate-equals : tie.Need-slice-aggregate-equals
--- slice-aggregate-equals c = search rules
-
--- no goal: slice-aggregate-equals-2 : tie.Need-slice-aggregate-equals-2
--- slice-aggregate-equals-2 c = search rules

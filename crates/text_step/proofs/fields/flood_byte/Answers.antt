@@ -1,6 +1,5 @@
 -- `text_step::fields::flood_byte` meets its contract. The field as a byte. Assumes nothing.
 use mathlib.Core.Path.{◌∙◌}
-use borrow.Author.Rules.{rules}
 use Rattle.text_step.proofs.fields.flood_byte.Goals as goal
 
 pub returns : goal.returns

@@ -1,6 +1,5 @@
 -- `text_step::fields::whole_at` meets its contract. The field as a whole field. Assumes nothing.
 use mathlib.Core.Path.{◌∙◌}
-use borrow.Author.Rules.{rules}
 use Rattle.text_step.proofs.fields.whole_at.Goals as goal
 
 pub returns : goal.returns

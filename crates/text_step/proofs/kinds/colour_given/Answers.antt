@@ -1,5 +1,4 @@
 -- `text_step::kinds::colour_given` meets its contract. The three fields. Assumes nothing.
-use borrow.Author.Rules.{rules}
 use Rattle.text_step.proofs.kinds.colour_given.Goals as goal
 
 pub returns : goal.returns

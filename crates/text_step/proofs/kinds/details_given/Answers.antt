@@ -1,6 +1,5 @@
 -- `text_step::kinds::details_given` meets its contract. By the kind's shape. Assumes nothing.
 use mathlib.Core.Path.{◌∙◌}
-use borrow.Author.Rules.{rules}
 use Rattle.text_step.proofs.kinds.details_given.Goals as goal
 
 pub returns-in-Flood : goal.returns-in-Flood

@@ -1,7 +1,6 @@
 -- `text_step::kinds::is_sound` meets its contract. The row is the kind's. Assumes nothing.
 use Rattle.text_field.specs.Split.{split}
 use Rattle.text_step.proofs.StepLineParts.{sound-is}
-use borrow.Author.Rules.{rules}
 use Rattle.text_step.proofs.kinds.is_sound.Goals as goal
 
 pub returns : goal.returns

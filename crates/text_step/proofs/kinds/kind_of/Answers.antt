@@ -6,7 +6,6 @@ use lib.ListN.{get_or}
 use Rattle.text_field.specs.Split.{split}
 use Rattle.text_step.specs.declared.Details.{Details}
 use Rattle.text_step.specs.Kinds.{kinds, first_kind, kind_of}
-use borrow.Author.Rules.{rules}
 use Rattle.text_step.proofs.kinds.kind_of.Goals as goal
 
 pub returns : goal.returns

@@ -1,6 +1,5 @@
 -- `text_step::kinds::map_details_given` meets its contract. Map by map. Assumes nothing.
 use mathlib.Core.Path.{◌∙◌}
-use borrow.Author.Rules.{rules}
 use Rattle.text_step.proofs.kinds.map_details_given.Goals as goal
 
 pub returns-in-Curve : goal.returns-in-Curve

@@ -1,6 +1,5 @@
 -- `text_step::kinds::merge_inputs` meets its contract. By the last field. Assumes nothing.
 use Rattle.text_step.proofs.SpaceField.{merge-spaced, merge-bare}
-use borrow.Author.Rules.{rules}
 use Rattle.text_step.proofs.kinds.merge_inputs.Goals as goal
 
 pub returns-then-is_space : goal.returns-then-is_space

@@ -1,7 +1,6 @@
 -- `text_step::kinds::or` meets its contract. By the comparison. Assumes nothing.
 use mathlib.Core.Path.{sym, ◌∙◌}
 use Rattle.text_step.specs.Kinds.{kind_if}
-use borrow.Author.Rules.{rules}
 use Rattle.text_step.proofs.kinds.or.Goals as goal
 
 pub returns-then-equals : goal.returns-then-equals

@@ -2,7 +2,6 @@
 use mathlib.Core.Path.{sym}
 use lib.Dec.{lit≤}
 use borrow.Author.Tests.{lt-ltb, le-ltb}
-use borrow.Author.Rules.{rules}
 use Rattle.text_step.proofs.layout.convolution_heads.Goals as goal
 
 pub returns-then-i-values_in : goal.returns-then-i-values_in

@@ -1,7 +1,6 @@
 -- `text_step::layout::curve_heads` meets its contract. The first channel that ends behind number i. Assumes nothing.
 use native.Mathlib.Omega.{arith}
 use Rattle.text_step.proofs.Placed.{at-red, at-green, at-blue, at-alpha}
-use borrow.Author.Rules.{rules}
 use Rattle.text_step.proofs.layout.curve_heads.Goals as goal
 
 pub returns-then-i-first : goal.returns-then-i-first

@@ -1,7 +1,6 @@
 -- `text_step::layout::field_count` meets its contract. No kind has many numbers. Assumes nothing.
 use native.Mathlib.Omega.{arith}
 use Rattle.filter.proofs.FewNumbers.{numbers-few}
-use borrow.Author.Rules.{rules}
 use Rattle.text_step.proofs.layout.field_count.Goals as goal
 
 pub number_field-requires : goal.number_field-requires

@@ -1,6 +1,5 @@
 -- `text_step::layout::heads_to` meets its contract. Kind by kind. Assumes nothing.
 use mathlib.Core.Path.{◌∙◌}
-use borrow.Author.Rules.{rules}
 use Rattle.text_step.proofs.layout.heads_to.Goals as goal
 
 pub returns-in-Map : goal.returns-in-Map

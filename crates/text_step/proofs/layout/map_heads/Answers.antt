@@ -1,6 +1,5 @@
 -- `text_step::layout::map_heads` meets its contract. Map by map. Assumes nothing.
 use mathlib.Core.Path.{◌∙◌}
-use borrow.Author.Rules.{rules}
 use Rattle.text_step.proofs.layout.map_heads.Goals as goal
 
 pub returns-in-Curve : goal.returns-in-Curve

@@ -1,7 +1,6 @@
 -- `text_step::layout::number_field` meets its contract. The row is the kind's. Assumes nothing.
 use native.Mathlib.Omega.{arith}
 use Rattle.text_step.proofs.Placed.{few_bytes}
-use borrow.Author.Rules.{rules}
 use Rattle.text_step.proofs.layout.number_field.Goals as goal
 
 pub overflow_add-result : goal.overflow_add-result

@@ -1,7 +1,6 @@
 -- `text_step::spaces::is_closed` meets its contract. By the count of fields. Assumes nothing.
 use mathlib.Core.Path.{◌∙◌}
 use Rattle.text_step.proofs.SpaceField.{closed_same, closed-other}
-use borrow.Author.Rules.{rules}
 use native.Mathlib.Omega.{arith}
 use Rattle.text_step.proofs.spaces.is_closed.Goals as goal
 

@@ -1,6 +1,5 @@
 -- `text_step::spaces::space_at` meets its contract. By the word. Assumes nothing.
 use Rattle.text_step.proofs.SpaceField.{at-srgb, at-linear}
-use borrow.Author.Rules.{rules}
 use Rattle.text_step.proofs.spaces.space_at.Goals as goal
 
 pub returns-then-equals : goal.returns-then-equals
@@ -8,6 +7,3 @@ returns-then-equals c = at-srgb _ _ c.field.ensures c.equals.ensures c.if-equals
 
 pub returns : goal.returns
 returns c = at-linear _ _ c.field.ensures c.equals.ensures c.if-equals.false
-
--- no goal: slice-aggregate-equals : tie.Need-slice-aggregate-equals
--- slice-aggregate-equals c = search rules

@@ -1,6 +1,5 @@
 -- `text_step::step_lines::assemble` meets its contract. By the three flags. Assumes nothing.
 use Rattle.text_step.proofs.StepLineParts.{assembled-good, assembled-bad}
-use borrow.Author.Rules.{rules}
 use Rattle.text_step.proofs.step_lines.assemble.Goals as goal
 
 pub returns-then-both : goal.returns-then-both

@@ -1,6 +1,5 @@
 -- `text_step::step_lines::input_of` meets its contract. By the two words. Assumes nothing.
 use Rattle.text_step.proofs.StepLineParts.{input-src, input-alpha, input-layer}
-use borrow.Author.Rules.{rules}
 use Rattle.text_step.proofs.step_lines.input_of.Goals as goal
 
 pub returns-then-equals : goal.returns-then-equals
@@ -12,9 +11,3 @@ returns-then-equals-2 c = input-alpha _ c.equals.ensures c.if-equals.false c.equ
 pub returns : goal.returns
 returns c =
     input-layer _ c.equals.ensures c.if-equals.false c.equals-2.ensures c.if-equals-2.false c.whole.ensures c.layer_reference.ensures
-
--- no goal: slice-aggregate-equals : tie.Need-slice-aggregate-equals
--- slice-aggregate-equals c = search rules
-
--- no goal: slice-aggregate-equals-2 : tie.Need-slice-aggregate-equals-2
--- slice-aggregate-equals-2 c = search rules

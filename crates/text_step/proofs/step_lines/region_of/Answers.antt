@@ -1,5 +1,4 @@
 -- `text_step::step_lines::region_of` meets its contract. The four fields. Assumes nothing.
-use borrow.Author.Rules.{rules}
 use Rattle.text_step.proofs.step_lines.region_of.Goals as goal
 
 pub returns : goal.returns

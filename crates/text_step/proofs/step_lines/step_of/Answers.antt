@@ -1,6 +1,5 @@
 -- `text_step::step_lines::step_of` meets its contract. By the kind that the line names. Assumes nothing.
 use Rattle.text_step.proofs.StepLineParts.{step-known, step-unknown}
-use borrow.Author.Rules.{rules}
 use Rattle.text_step.proofs.step_lines.step_of.Goals as goal
 
 pub returns-in_default : goal.returns-in_default

@@ -1,7 +1,6 @@
 -- `text_step::transfers::is_word` meets its contract. By the four words. Assumes nothing.
 use mathlib.Core.Path.{sym, ◌∙◌}
 use Rattle.text_step.specs.Transfers.{word?}
-use borrow.Author.Rules.{rules}
 use Rattle.text_step.proofs.transfers.is_word.Goals as goal
 
 pub returns-then-equals : goal.returns-then-equals
@@ -19,15 +18,3 @@ returns-then-equals-3 c = rw (sym c.equals.ensures ∙ c.if-equals.false, sym c.
 pub returns : goal.returns
 unfolding word?
 returns c = c.equals-4.ensures ∙ rw (sym c.equals.ensures ∙ c.if-equals.false, sym c.equals-2.ensures ∙ c.if-equals-2.false, sym c.equals-3.ensures ∙ c.if-equals-3.false)
-
--- no goal: slice-aggregate-equals : tie.Need-slice-aggregate-equals
--- slice-aggregate-equals c = search rules
-
--- no goal: slice-aggregate-equals-2 : tie.Need-slice-aggregate-equals-2
--- slice-aggregate-equals-2 c = search rules
-
--- no goal: slice-aggregate-equals-3 : tie.Need-slice-aggregate-equals-3
--- slice-aggregate-equals-3 c = search rules
-
--- no goal: slice-aggregate-equals-4 : tie.Need-slice-aggregate-equals-4
--- slice-aggregate-equals-4 c = search rules

@@ -1,6 +1,5 @@
 -- `text_step::transfers::transfer_at` meets its contract. By the word. Assumes nothing.
 use Rattle.text_step.proofs.Transferred.{at-identity, at_table, at-discrete, at_last}
-use borrow.Author.Rules.{rules}
 use Rattle.text_step.proofs.transfers.transfer_at.Goals as goal
 
 pub returns-then-equals : goal.returns-then-equals
@@ -14,12 +13,3 @@ returns-then-equals-3 c = at-discrete _ _ c.field-f.ensures c.equals.ensures c.i
 
 pub returns : goal.returns
 returns c = at_last _ _ c.field-f.ensures c.equals.ensures c.if-equals.false c.equals-2.ensures c.if-equals-2.false c.equals-3.ensures c.if-equals-3.false
-
--- no goal: slice-aggregate-equals : tie.Need-slice-aggregate-equals
--- slice-aggregate-equals c = search rules
-
--- no goal: slice-aggregate-equals-2 : tie.Need-slice-aggregate-equals-2
--- slice-aggregate-equals-2 c = search rules
-
--- no goal: slice-aggregate-equals-3 : tie.Need-slice-aggregate-equals-3
--- slice-aggregate-equals-3 c = search rules

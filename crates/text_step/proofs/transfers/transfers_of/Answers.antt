@@ -1,6 +1,5 @@
 -- `text_step::transfers::transfers_of` meets its contract. One after another. Assumes nothing.
 use Rattle.text_step.proofs.Transferred.{transfers-are}
-use borrow.Author.Rules.{rules}
 use Rattle.text_step.proofs.transfers.transfers_of.Goals as goal
 
 pub returns : goal.returns

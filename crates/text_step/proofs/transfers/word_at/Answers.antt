@@ -1,8 +1,7 @@
 -- `text_step::transfers::word_at` meets its contract. The field as a word. Assumes nothing.
 use mathlib.Core.Path.{ap, ◌∙◌}
 use Rattle.text_step.specs.Transfers.{word?}
-use borrow.Author.Rules.{rules}
 use Rattle.text_step.proofs.transfers.word_at.Goals as goal
 
 pub returns : goal.returns
-returns c = c.is_IsWord.ensures ∙ ap word? c.field.ensures
+returns c = c.is_word.ensures ∙ ap word? c.field.ensures

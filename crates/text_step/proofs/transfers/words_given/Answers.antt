@@ -1,6 +1,5 @@
 -- `text_step::transfers::words_given` meets its contract. The four words. Assumes nothing.
 use mathlib.Core.Path.{◌∙◌}
-use borrow.Author.Rules.{rules}
 use Rattle.text_step.proofs.transfers.words_given.Goals as goal
 
 pub returns : goal.returns

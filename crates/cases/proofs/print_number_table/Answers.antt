@@ -1,7 +1,0 @@
--- `cases::print_number_table` meets its contract: the loop counts its turns. Assumes nothing.
-use Prim.Native.Nat.{◌-◌}
-use borrow.Author.Rules.{rules}
-use Rattle.cases.proofs.print_number_table.Goals as goal
-
--- no goal: slice-aggregate-open-read : tie.Need-slice-aggregate-open-read invariant-loop decreases-loop
--- slice-aggregate-open-read c = search rules
