@@ -2,7 +2,7 @@
 use mathlib.Core.Path.{◌≡◌, refl, sym, ◌∙◌, fun_ext}
 use mathlib.Core.List.{List}
 use mathlib.Core.Logic.{◌⊎◌, inl, inr, ⊎_elim, ◌≢◌}
-use Prim.Native.Nat.{ℕ, ◌+◌, ◌*◌, ◌≤◌, ◌<◌}
+use Prim.Native.Nat.{ℕ, ◌+◌, ◌*◌, ◌≤◌, ◌<◌, max}
 use native.Mathlib.Nat.{mul-le-mul_right}
 use native.Mathlib.Omega.{arith}
 use native.Mathlib.Decide.{ℕ_discrete}
@@ -38,6 +38,12 @@ drawn-as w h n r r' new d d' f g D = record {
   others = D.others;
   long = D.long;
 }
+
+-- all rows of the rectangle
+pub drawn-all : (w h n : ℕ) (r : Rect) (y : ℕ) (new : Picture) (d d' : List ℕ) → y ≤ max r.top r.bottom → r.bottom ≤ y → Drawn w h n (band r.left r.right r.top y) new d d' → Drawn w h n r new d d'
+drawn-all w h n r y new d d' l m = drawn-as w h n (band r.left r.right r.top y) r new d d'
+    (λ x v i. record { left = i.left; right = i.right; top = i.top; bottom = omega (arith, i.bottom, i.top, l) })
+    (λ x v i. record { left = i.left; right = i.right; top = i.top; bottom = omega (arith, i.bottom, m) })
 
 -- a picture that is the same inside the rectangle
 pub drawn-new : (w h n : ℕ) (r : Rect) (f g : Picture) (d d' : List ℕ) → ((x y : ℕ) → In r x y → f x y ≡ g x y) → Drawn w h n r f d d' → Drawn w h n r g d d'

@@ -8,6 +8,7 @@ pub mod DrawnAgrees
 pub mod RowStarts
 pub mod LoadedRows
 pub mod PatchCut
+pub mod KernelRows
 pub mod WorkAgrees
 pub mod AfterDrawing
 pub mod FirstLayers

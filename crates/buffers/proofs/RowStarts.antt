@@ -62,9 +62,6 @@ module _ (w h : ℕ) (src ws : List ℕ) (y from to : ℕ) (row row' : List ℕ)
       let e : at + (j - 0) ≡ row_start w h k y + (from + j) = omega arith in
       ap (λ (q : ℕ). pixel_at ws (4 * q)) e ∙ read-place w h k ws (from + j) y (omega arith) high) P)
 
-pub allowed-below : (n : ℕ) (i : Input) (k : ℕ) → i ≡ Layer k → allowed? n i ≡ true → k < n
-allowed-below n i k e l = ltb-true k n (rw e at l)
-
 pub allowed-more : (n m : ℕ) (i : Input) → n ≤ m → allowed? n i ≡ true → allowed? m i ≡ true
 allowed-more n m Source l e = e
 allowed-more n m SourceAlpha l e = e

@@ -1,17 +1,16 @@
 -- Laws of parts of inputs that are copied as they stand, or read in the source. Assumes nothing.
-use Prim.Native.Nat.{ℕ, ◌+◌, ◌-◌, ◌*◌, ◌≤◌}
+use Prim.Native.Nat.{ℕ, ◌+◌, ◌-◌, ◌*◌}
 use mathlib.Core.Path.{◌≡◌, refl, sym, subst, ◌∙◌}
 use mathlib.Core.Bool.{Bool, true, false, false≢true}
 use mathlib.Core.List.{List}
 use native.Mathlib.Omega.{arith}
 use lib.ListN.{length, take, drop, length-drop}
-use lib.Seq.{get_or-take, length-take-le}
+use lib.Seq.{length-take-le}
 use borrow.Author.Tests.{not-true}
 use Rattle.pixel.specs.Bytes.{pixel_at, Painted}
-use Rattle.pixel.proofs.PaintedRows.{pixel-same, pixel-part}
+use Rattle.pixel.proofs.PaintedRows.{pixel-part}
 use Rattle.filter.specs.declared.Input.{Input}
 use Rattle.filter.specs.declared.Input.TheVariants.{Source, SourceAlpha, Layer}
-use Rattle.filter.specs.Picture.{Picture}
 use Rattle.filter.specs.Bytes.{size}
 use Rattle.buffers.specs.declared.Context.{Context}
 use Rattle.buffers.specs.declared.RowPart.{RowPart}
@@ -46,10 +45,6 @@ module _ (c : Context) where
       long = L.long;
     }
 
-    -- and no copy
-    pub copied_none : (b : Bool) (row : List ℕ) → b ≡ false → CopiedIf b c i p src ws row row
-    copied_none b row f = record { copied = λ t. absurd (false≢true (sym f ∙ t)); kept = λ _. refl; long = refl }
-
     -- what was copied is there
     pub held : (b : Bool) (row row' : List ℕ) → CopiedIf b c i p src ws row row' → HeldIf b c i p src ws row'
     held b row row' C t = loaded-stays (shown c src ws i) p.y p.from p.to row row' (C.copied t) (shown c src ws i) (λ x. refl)
@@ -77,15 +72,3 @@ module _ (c : Context) where
           long = long ∙ ek;
           held = rw (shown-own c src ws i o.1) (loaded-source _ _ _ ws _ _ _ _ _ R.high R.wide (p.y * c.w + p.from) i o.0 (omega arith) P);
         }
-
--- the start of a work row
-pub seen-row : (q : Picture) (p : RowPart) (row row' : List ℕ) (k : ℕ) → k ≡ 4 * (p.to - p.from) → k ≤ length row' → LoadedPart q p row row' → Seen q p (take k row')
-seen-row q p row row' k e l L = record {
-  long = length-take-le k row' l ∙ e;
-  held = record {
-    inside = λ x m n. pixel-same (take k row') row' (0 + 4 * x) (0 + 4 * x) (λ b h. get_or-take k row' (0 + 4 * x + b) 0 (omega arith)) ∙ L.inside x m n;
-    before = λ j m. refl;
-    after = λ j m. refl;
-    long = refl;
-  };
-}

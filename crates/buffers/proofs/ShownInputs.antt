@@ -52,11 +52,7 @@ module _ (c : Context) (src : List ℕ) where
   pub drawable-valid : (ws pairs : List ℕ) → Drawable c src ws pairs → ValidInputs c.n (shown c src ws)
   drawable-valid ws pairs D = shown-valid ws D.valid
 
-  -- pixel by pixel, and as it is kept
-  pub shown-is : (ws : List ℕ) (i : Input) (x y : ℕ) → shown c src ws i x y ≡ converted (spaces_in c i) c.space (stands c.w c.h src ws i x y)
-  unfolding shown
-  shown-is ws i x y = refl
-
+  -- an input as it is kept
   pub kept-shown : (ws : List ℕ) (i : Input) → shown (as_kept c i) src ws i ≡ stands c.w c.h src ws i
   unfolding shown
   kept-shown ws i = fun_ext λ x. fun_ext λ y. converted-same (spaces_in c i) (spaces_in c i) (stands c.w c.h src ws i x y) (differ-not (spaces_in c i))

@@ -7,3 +7,4 @@ pub mod Seen
 pub mod Strip
 pub mod LayerReplaced
 pub mod Code
+pub mod Kernels

@@ -1,6 +1,7 @@
 // Rows of the pictures in the caller's buffers, brought to work rows and back.
 #![tactic(auto)]
 
+pub mod rows;
 pub mod spaces;
 
 ghost use Rattle.std.specs.Prelude.{◌≡◌, true, ◌+◌, ◌-◌, ◌*◌, ◌≤◌, ◌<◌, length};
@@ -21,15 +22,15 @@ use filter::{Input, Rect, Sheet};
 use pixel::Space;
 use spaces::{convert_loaded, converts, lies, stays};
 
-// What a step is drawn in: the canvas, the step's number, which is its layer's, and how it sees its inputs: its own working space, for
-// each layer whether it is kept in linear light, and whether a table is worth its making, which alters no picture.
+// What a step is drawn in: the canvas, the step's number, which is its layer's, and how it sees its inputs: its own working space, the
+// space that each layer is kept in, and whether a table is worth its making, which alters no picture.
 #[derive(Clone, Copy)]
 pub struct Context {
     pub w: usize,
     pub h: usize,
     pub n: usize,
     pub space: Space,
-    pub linear: [bool; Sheet::STEPS],
+    pub spaces: [Space; Sheet::STEPS],
     pub tabled: bool,
 }
 
@@ -194,12 +195,10 @@ pub fn see<'a>(
         return &source[a..e];
     }
     if stays(context, input) {
-        let whole = &row[..];
-        return &whole[..k];
+        return &row[..k];
     }
     bring(workspace, source, context, pairs, input, part, row);
-    let whole = &row[..];
-    &whole[..k]
+    &row[..k]
 }
 
 // The pixels of a work row from the place `at` on, to a part of a row of the step's own layer.
@@ -224,17 +223,12 @@ pub fn store_rows(
     requires first_le_top { (first ≤ rect.top) × (4 * (at + (rect.bottom - first) * (rect.right - rect.left)) ≤ length strip.now) }
     ensures { DrawnIn context rect (strip_in strip.now at rect first) workspace.old workspace.new }
 {
-    let left = rect.left;
-    let right = rect.right;
-    let top = rect.top;
-    let bottom = rect.bottom;
-    let width = right - left;
-    for y in top..bottom {
-        let from = at + (y - first) * width;
+    for y in rect.top..rect.bottom {
+        let from = at + (y - first) * (rect.right - rect.left);
         let part = RowPart {
             y,
-            from: left,
-            to: right,
+            from: rect.left,
+            to: rect.right,
         };
         store(workspace, context, part, strip, from);
     }

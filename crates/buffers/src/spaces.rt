@@ -12,28 +12,16 @@ use filter::Input;
 use kernel_remap::convert_row;
 use kernel_remap::few::convert_few;
 use pixel::Space;
-use pixel::convert::differ;
-
-// The space that layer k is kept in.
-fn layer_space(context: Context, k: usize) -> Space
-    requires { k < most_steps }
-    ensures { result ≡ spaces_in context (Layer k) }
-{
-    if context.linear[k] {
-        return Space::Linear;
-    }
-    Space::Srgb
-}
 
 // The space that an input is kept in.
+#[tactic(auto, unfolding(crate::specs::Shown::spaces_by))]
 fn kept_space(context: Context, input: Input) -> Space
     requires { allowed? most_steps input ≡ true }
     ensures { result ≡ spaces_in context input }
 {
     match input {
-        Input::Source => Space::Srgb,
-        Input::SourceAlpha => Space::Srgb,
-        Input::Layer(k) => layer_space(context, k),
+        Input::Source | Input::SourceAlpha => Space::Srgb,
+        Input::Layer(k) => context.spaces[k],
     }
 }
 
@@ -42,15 +30,9 @@ pub fn as_kept(context: Context, input: Input) -> Context
     requires { allowed? most_steps input ≡ true }
     ensures { result ≡ as_kept context input }
 {
-    let space = kept_space(context, input);
-    let linear = context.linear;
     Context {
-        w: context.w,
-        h: context.h,
-        n: context.n,
-        space,
-        linear,
-        tabled: context.tabled,
+        space: kept_space(context, input),
+        ..context
     }
 }
 
@@ -59,14 +41,10 @@ pub fn converts(context: Context, input: Input) -> bool
     requires { allowed? most_steps input ≡ true }
     ensures { result ≡ converts? context input }
 {
-    let space = context.space;
+    let kept = kept_space(context, input);
     match input {
-        Input::Source => differ(Space::Srgb, space),
         Input::SourceAlpha => false,
-        Input::Layer(k) => {
-            let kept = layer_space(context, k);
-            differ(kept, space)
-        }
+        Input::Source | Input::Layer(_) => kept != context.space,
     }
 }
 
@@ -75,11 +53,7 @@ pub fn lies(context: Context, input: Input) -> bool
     requires { allowed? most_steps input ≡ true }
     ensures { result ≡ lies? context input }
 {
-    match input {
-        Input::Source => !converts(context, input),
-        Input::SourceAlpha => false,
-        Input::Layer(_) => false,
-    }
+    matches!(input, Input::Source) && !converts(context, input)
 }
 
 // Whether an input is a layer, and not converted: its rows are copied as they stand.
@@ -87,11 +61,7 @@ pub fn stays(context: Context, input: Input) -> bool
     requires { allowed? most_steps input ≡ true }
     ensures { result ≡ stays? context input }
 {
-    match input {
-        Input::Source => false,
-        Input::SourceAlpha => false,
-        Input::Layer(_) => !converts(context, input),
-    }
+    matches!(input, Input::Layer(_)) && !converts(context, input)
 }
 
 // The first `count` pixels of a row, converted to the step's space in place.

@@ -2,10 +2,14 @@
 // other means: tests/. No contract can say what is written, so that what prints is private.
 #![tactic(auto)]
 
+mod show;
+
 ghost use Rattle.std.specs.Prelude.{◌≡◌, ◌+◌, ◌≤◌, ◌<◌, length};
 
-use filter::{Answer, Call, Region, Sheet};
+use checks::answers::{number, place};
+use filter::{Call, Region, Sheet};
 use lines::draw_lines;
+use show::Show;
 use std::fs::File;
 use std::io;
 use std::io::{ErrorKind, Read};
@@ -13,74 +17,51 @@ use std::rt::Files;
 use tables::content::{is_zero, sum};
 use tables::field::hex;
 use text::reader::scan;
-use text::{Form, ReadAnswer};
+use text::{Form, TextRefusal};
 
 // What an entry asks for besides its step lines and its buffers; the layer that is printed, and how.
 #[derive(Clone, Copy)]
 struct Entry {
     width: usize,
     height: usize,
-    changed: Region,
+    call: Call,
     count: usize,
-    redraw: bool,
     layer: usize,
-    show: u8,
+    show: Show,
 }
 
-fn print_word(rt: &impl Print, w: &[u8]) -> io::Result<()> {
-    rt.write_all(w)
-}
-
-fn print_number(rt: &impl Print, n: u64) -> io::Result<()> {
-    print!(rt; " {n}")
-}
-
-fn end_line(rt: &impl Print) -> io::Result<()> {
-    println!(rt)
-}
-
-// The end of a line: what a call left in the workspace and in the scratch.
-
-// Kept, or cleared to zeros, or changed.
+// What a call left in a buffer: kept, or cleared to zeros, or changed.
 fn print_change(rt: &impl Print, before: &[u8], after: &[u8], cleared: bool) -> io::Result<()> {
     if before == after {
-        return print_word(rt, b" kept");
+        return print!(rt; " kept");
     }
     if cleared {
-        return print_word(rt, b" cleared");
+        return print!(rt; " cleared");
     }
-    print_word(rt, b" changed")
+    print!(rt; " changed")
 }
 
-// Byte i of a layer: as pixels in hex, or alphas alone.
-fn print_byte(rt: &impl Print, show: u8, i: usize, x: u8) -> io::Result<()> {
-    if show == 120 {
+// The layer's pixels in hex.
+fn print_pixels(rt: &impl Print, layer: &[u8]) -> io::Result<()> {
+    for (i, x) in layer.iter().enumerate() {
         if i % 4 == 0 {
-            print_word(rt, b" ")?;
+            print!(rt; " ")?;
         }
-        return print!(rt; "{x:02x}");
-    }
-    if i % 4 == 3 {
-        print_number(rt, x as u64)?;
+        print!(rt; "{x:02x}")?;
     }
     Ok(())
 }
 
-fn print_bytes(rt: &impl Print, show: u8, layer: &[u8]) -> io::Result<()> {
-    let n = layer.len();
-    for i in 0..n {
-        print_byte(rt, show, i, layer[i])?;
+// Its alphas alone.
+fn print_alphas(rt: &impl Print, layer: &[u8]) -> io::Result<()> {
+    for (i, x) in layer.iter().enumerate() {
+        if i % 4 == 3 {
+            print!(rt; " {x}")?;
+        }
     }
     Ok(())
 }
 
-fn print_sums(rt: &impl Print, workspace: &[u8], layer: &[u8]) -> io::Result<()> {
-    print_number(rt, sum(workspace))?;
-    print_number(rt, layer.len() as u64)?;
-    print_number(rt, sum(layer))
-}
-
-// s: sums; x: the layer's pixels in hex; a: its alphas; any other: nothing.
 fn print_layer(rt: &impl Print, entry: Entry, workspace: &[u8]) -> io::Result<()> {
     let layer = render::views::layer(
         entry.width,
@@ -89,29 +70,15 @@ fn print_layer(rt: &impl Print, entry: Entry, workspace: &[u8]) -> io::Result<()
         entry.layer,
         workspace,
     );
-    let show = entry.show;
-    match show {
-        115 => print_sums(rt, workspace, layer),
-        120 | 97 => print_bytes(rt, show, layer),
-        _ => Ok(()),
+    match entry.show {
+        Show::Sums => print!(rt; " {} {} {}", sum(workspace), layer.len(), sum(layer)),
+        Show::Pixels => print_pixels(rt, layer),
+        Show::Alphas => print_alphas(rt, layer),
+        Show::Nothing => Ok(()),
     }
 }
 
 // Lines rendered or redrawn, on buffers of their own, and the line of that.
-
-fn print_answer(rt: &impl Print, answer: Answer) -> io::Result<()> {
-    print_number(rt, checks::answers::number(answer))?;
-    print_number(rt, checks::answers::place(answer) as u64)
-}
-
-fn call_of(entry: Entry) -> Call {
-    let changed = entry.changed;
-    if entry.redraw {
-        return Call::Redraw(changed);
-    }
-    Call::Render
-}
-
 fn run(
     rt: &impl Print,
     entry: Entry,
@@ -123,7 +90,7 @@ fn run(
     let drawn = draw_lines(
         Form::Lines,
         text,
-        call_of(entry),
+        entry.call,
         entry.width,
         entry.height,
         source,
@@ -131,13 +98,14 @@ fn run(
         scratch,
     );
     let answer = drawn.answer;
-    if entry.redraw {
-        print_word(rt, b" redraw")?;
-        print_answer(rt, answer)?;
-        print_number(rt, drawn.count as u64)
-    } else {
-        print_word(rt, b" render")?;
-        print_answer(rt, answer)
+    match entry.call {
+        Call::Render => print!(rt; " render {} {}", number(answer), place(answer)),
+        Call::Redraw(_) => print!(rt;
+            " redraw {} {} {}",
+            number(answer),
+            place(answer),
+            drawn.count
+        ),
     }
 }
 
@@ -154,13 +122,13 @@ fn print_on(
 ) -> io::Result<()>
     requires { (length workspace.now ≡ length layers.old) × (length scratch.now ≡ length spare.old) }
 {
-    kernel_row::row::copy(workspace, layers);
-    kernel_row::row::copy(scratch, spare);
+    layers.copy_from_slice(workspace);
+    spare.copy_from_slice(scratch);
     run(rt, entry, text, source, layers, spare)?;
     print_change(rt, workspace, &layers[..], false)?;
     print_change(rt, scratch, &spare[..], is_zero(&spare[..]))?;
     print_layer(rt, entry, &layers[..])?;
-    end_line(rt)
+    println!(rt)
 }
 
 // One call, a redraw or a render, and its line.
@@ -174,8 +142,6 @@ fn print_call(
 ) -> io::Result<()>
     requires { (length workspace.now ≤ 16384) × (length scratch.now ≤ 4096) }
 {
-    let a = workspace.len();
-    let b = scratch.len();
     let mut layers = [0u8; 16384];
     let mut spare = [0u8; 4096];
     print_on(
@@ -185,13 +151,12 @@ fn print_call(
         source,
         workspace,
         scratch,
-        &mut layers[..a],
-        &mut spare[..b],
+        &mut layers[..workspace.len()],
+        &mut spare[..scratch.len()],
     )
 }
 
 // The entries of data/calls.in: a head, step lines, and the bytes of source, workspace and scratch.
-
 // Field i of a head, after the name of 12 bytes and the letter that says how a layer is printed.
 fn value(head: &[u8], i: usize) -> usize
     requires { (length head.now ≡ 206) × (i < 12) }
@@ -199,32 +164,31 @@ fn value(head: &[u8], i: usize) -> usize
     hex(head, 13 + 16 * i, 16) as usize
 }
 
-fn entry_of(head: &[u8], redraw: bool) -> Entry
+fn changed_in(head: &[u8]) -> Region
     requires { length head.now ≡ 206 }
 {
-    let changed = Region {
+    Region {
         x: value(head, 2),
         y: value(head, 3),
         width: value(head, 4),
         height: value(head, 5),
-    };
-    Entry {
-        width: value(head, 0),
-        height: value(head, 1),
-        changed,
-        count: value(head, 6),
-        redraw,
-        layer: value(head, 7),
-        show: head[12],
     }
 }
 
-fn print_refusal(rt: &impl Print, name: &[u8], place: usize) -> io::Result<()> {
-    print_word(rt, name)?;
-    print_number(rt, place as u64)?;
-    end_line(rt)
+fn entry_of(head: &[u8], call: Call) -> Entry
+    requires { length head.now ≡ 206 }
+{
+    Entry {
+        width: value(head, 0),
+        height: value(head, 1),
+        call,
+        count: value(head, 6),
+        layer: value(head, 7),
+        show: Show::from(head[12]),
+    }
 }
 
+// Its lines: a render and a redraw, or the refusal of its text.
 fn print_entry(
     rt: &impl Print,
     head: &[u8],
@@ -235,17 +199,17 @@ fn print_entry(
 ) -> io::Result<()>
     requires { (length head.now ≡ 206) × (length workspace.now ≤ 16384) × (length scratch.now ≤ 4096) }
 {
-    let reading = scan(Form::Lines, text, Sheet::STEPS);
-    print_word(rt, &head[..12])?;
-    let answer = reading.answer;
-    match answer {
-        ReadAnswer::Done => {
-            print_call(rt, entry_of(head, false), text, source, workspace, scratch)?;
-            print_word(rt, &head[..12])?;
-            print_call(rt, entry_of(head, true), text, source, workspace, scratch)
+    rt.write_all(&head[..12])?;
+    match scan(Form::Lines, text, Sheet::STEPS) {
+        Ok(_) => {
+            let render = entry_of(head, Call::Render);
+            print_call(rt, render, text, source, workspace, scratch)?;
+            rt.write_all(&head[..12])?;
+            let redraw = entry_of(head, Call::Redraw(changed_in(head)));
+            print_call(rt, redraw, text, source, workspace, scratch)
         }
-        ReadAnswer::Line(n) => print_refusal(rt, b" text 15", n),
-        ReadAnswer::Records => print_refusal(rt, b" text 21", 0),
+        Err(TextRefusal::Line(n)) => println!(rt; " text 15 {n}"),
+        Err(TextRefusal::Records) => println!(rt; " text 21 0"),
     }
 }
 
@@ -254,8 +218,7 @@ fn long(head: &[u8], i: usize, most: usize) -> usize
     requires { (length head.now ≡ 206) × (i < 12) }
     ensures { result ≤ most }
 {
-    let n = value(head, i);
-    if n < most { n } else { most }
+    value(head, i).min(most)
 }
 
 // Takes the rest of an entry apart: a bytes of step lines, b of the source, c of the workspace, d of the scratch.

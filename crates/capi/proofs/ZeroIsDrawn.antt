@@ -4,19 +4,19 @@ use mathlib.Core.Path.{◌≡◌, refl, sym, ap, ◌∙◌}
 use mathlib.Core.Bool.{false}
 use mathlib.Core.Logic.{⊎_elim}
 use lib.Dec.{eqb}
-use Rattle.filter.specs.declared.Answer.{Answer}
-use Rattle.filter.specs.Answers.{accepted?}
-use Rattle.text.specs.declared.ReadAnswer.{ReadAnswer}
-use Rattle.text.specs.declared.ReadAnswer.TheVariants.{Done, Line, Records}
+use Rattle.filter.specs.Answers.{Answer, accepted?}
+use Rattle.std.specs.Prelude.{Ok, Err}
+use Rattle.text.specs.declared.TextRefusal.TheVariants.{Line, Records}
+use Rattle.text.specs.Reading.{ReadAnswer, answer_of}
 use Rattle.lines.specs.Lines.{GivenText, reading_in, answer_in}
 use Rattle.lines.proofs.AllStepsCount.{unread-refused, read-or-none}
 use Rattle.capi.specs.Lines.{number_after, number_for}
 
 not-zero : (said : ReadAnswer) (a : Answer) → accepted? a ≡ false → eqb (number_after said a) 0 ≡ false
 unfolding accepted?
-not-zero Done a e = e
-not-zero (Line n) a e = refl
-not-zero Records a e = refl
+not-zero (Ok u) a e = e
+not-zero (Err (Line n)) a e = refl
+not-zero (Err Records) a e = refl
 
 pub zero-drawn : (t : GivenText) → eqb (number_for t) 0 ≡ accepted? (answer_in t)
 unfolding number_for accepted?
@@ -25,5 +25,5 @@ zero-drawn t =
     (λ e. ap (λ (said : ReadAnswer). eqb (number_after said (answer_in t)) 0) e)
     (λ z.
     let f = unread-refused t.form t.text t.width t.height t.call t.source t.workspace t.scratch z in
-    not-zero (reading_in t.form t.text).answer (answer_in t) f ∙ sym f)
+    not-zero (answer_of (reading_in t.form t.text)) (answer_in t) f ∙ sym f)
     (read-or-none t.form t.text t.width t.height)

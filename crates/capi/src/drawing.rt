@@ -6,46 +6,29 @@ use super::Redrawing;
 use checks::answers::{number, place};
 use filter::{Answer, Call};
 use lines::draw_lines;
-use text::{Form, ReadAnswer};
+use text::{Form, ReadAnswer, TextRefusal};
 
-// The sheet's own number and place.
-fn own_reply(answer: Answer, count: usize) -> Redrawing
-    ensures { result ≡ replied ReadAnswer.Done answer count }
-{
-    Redrawing {
-        number: number(answer),
-        place: place(answer),
-        count,
-    }
-}
-
-fn line_reply(answer: Answer, line: usize, count: usize) -> Redrawing
-    ensures { result ≡ replied (ReadAnswer.Line line) answer count }
-{
-    Redrawing {
-        number: 15,
-        place: line,
-        count,
-    }
-}
-
-fn records_reply(answer: Answer, count: usize) -> Redrawing
-    ensures { result ≡ replied ReadAnswer.Records answer count }
-{
-    Redrawing {
-        number: 21,
-        place: 0,
-        count,
-    }
-}
-
+// Number and place: of a text that is refused, or else the sheet's own.
+#[tactic(auto, unfolding(crate::specs::Lines::replied))]
 fn reply(reading: ReadAnswer, answer: Answer, count: usize) -> Redrawing
     ensures { result ≡ replied reading answer count }
 {
     match reading {
-        ReadAnswer::Done => own_reply(answer, count),
-        ReadAnswer::Line(line) => line_reply(answer, line, count),
-        ReadAnswer::Records => records_reply(answer, count),
+        Ok(()) => Redrawing {
+            number: number(answer),
+            place: place(answer),
+            count,
+        },
+        Err(TextRefusal::Line(place)) => Redrawing {
+            number: 15,
+            place,
+            count,
+        },
+        Err(TextRefusal::Records) => Redrawing {
+            number: 21,
+            place: 0,
+            count,
+        },
     }
 }
 
@@ -74,7 +57,5 @@ pub fn call_lines(
         workspace,
         scratch,
     );
-    let reading = drawn.reading;
-    let answer = drawn.answer;
-    reply(reading, answer, drawn.count)
+    reply(drawn.reading, drawn.answer, drawn.count)
 }

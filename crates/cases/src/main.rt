@@ -4,7 +4,7 @@
 
 ghost use Rattle.std.specs.Prelude.{◌≡◌, length};
 
-use number::{Judged, Number, Range};
+use number::{Fault, Fixed, Number, Range};
 use pixel::MatrixRow;
 use std::fs::File;
 use std::io;
@@ -12,57 +12,28 @@ use std::io::{ErrorKind, Read};
 use std::rt::Files;
 use tables::field::hex;
 
-fn print_word(rt: &impl Print, w: &[u8]) -> io::Result<()> {
-    rt.write_all(w)
-}
-
-fn print_number(rt: &impl Print, n: u64) -> io::Result<()> {
-    print!(rt; " {n}")
-}
-
-fn end_line(rt: &impl Print) -> io::Result<()> {
-    println!(rt)
-}
-
 // Worked by hand: P1, the way back of P2, P7 and P12 (RULES 11.1), and the numbers that are run (11.2). Then what a half between two units
 // becomes: the even one of a number, the larger one of saturate's own coefficients.
 
-fn print_byte(rt: &impl Print, name: &[u8], value: u8) -> io::Result<()> {
-    print_word(rt, name)?;
-    print_number(rt, value as u64)?;
-    end_line(rt)
-}
-
-fn print_row(rt: &impl Print, name: &[u8], row: MatrixRow) -> io::Result<()> {
-    print_word(rt, name)?;
-    print_number(rt, row.r.above)?;
-    print_number(rt, row.g.above)?;
-    print_number(rt, row.b.above)?;
-    end_line(rt)
+fn print_row(rt: &impl Print, name: &str, row: MatrixRow) -> io::Result<()> {
+    println!(rt; "{name} {} {} {}", row.r.above, row.g.above, row.b.above)
 }
 
 // The answer of a number, as the end of a line.
-fn print_judged(rt: &impl Print, judged: Judged) -> io::Result<()> {
+fn print_judged(rt: &impl Print, judged: Result<Fixed, Fault>) -> io::Result<()> {
     match judged {
-        Judged::Accepted(f) => {
-            print_number(rt, f.above)?;
-            print_number(rt, f.below)?;
-        }
-        Judged::Refused(fault) => {
-            print_word(rt, b" refused")?;
-            print_number(rt, number::fault_number(fault) as u64)?;
-        }
+        Ok(units) => println!(rt; " {} {}", units.above, units.below),
+        Err(fault) => println!(rt; " refused {}", number::fault_number(fault)),
     }
-    end_line(rt)
 }
 
-fn print_decimal(rt: &impl Print, name: &[u8], range: Range, z: i64) -> io::Result<()> {
-    print_word(rt, name)?;
+fn print_decimal(rt: &impl Print, name: &str, range: Range, z: i64) -> io::Result<()> {
+    print!(rt; "{name}")?;
     print_judged(rt, number::judge(range, Number::Decimal(z)))
 }
 
-fn print_single(rt: &impl Print, name: &[u8], range: Range, bits: u32) -> io::Result<()> {
-    print_word(rt, name)?;
+fn print_single(rt: &impl Print, name: &str, range: Range, bits: u32) -> io::Result<()> {
+    print!(rt; "{name}")?;
     print_judged(
         rt,
         number::judge(range, Number::Single(number::single(bits))),
@@ -71,20 +42,20 @@ fn print_single(rt: &impl Print, name: &[u8], range: Range, bits: u32) -> io::Re
 
 // 2.5 and −3.5 units; for s of 65,036 units 0.213 · (1 − s) is 106.5.
 fn print_examples(rt: &impl Print) -> io::Result<()> {
-    print_byte(rt, b"P1", pixel::alpha::premultiply(255, 128))?;
-    print_byte(rt, b"P2 back", pixel::alpha::premultiply(85, 3))?;
-    print_row(rt, b"P7", pixel::color_matrix::saturation_matrix(0).r)?;
-    print_decimal(rt, b"P12", Range::Deviation, -1)?;
-    print_single(rt, b"P12 zero", Range::Deviation, 0x80000000)?;
-    print_decimal(rt, b"Run 32", Range::Deviation, 320000)?;
-    print_single(rt, b"Run above 32", Range::Deviation, 0x42000001)?;
-    print_single(rt, b"Run x7fc00000", Range::Deviation, 0x7fc00000)?;
-    print_decimal(rt, b"Run 0.5", Range::Offset, 5000)?;
-    print_single(rt, b"Tie 2.5", Range::Coefficient, 0x38200000)?;
-    print_single(rt, b"Tie -3.5", Range::Coefficient, 0xb8600000)?;
+    println!(rt; "P1 {}", pixel::alpha::premultiply(255, 128))?;
+    println!(rt; "P2 back {}", pixel::alpha::premultiply(85, 3))?;
+    print_row(rt, "P7", pixel::color_matrix::saturation_matrix(0).r)?;
+    print_decimal(rt, "P12", Range::Deviation, -1)?;
+    print_single(rt, "P12 zero", Range::Deviation, 0x80000000)?;
+    print_decimal(rt, "Run 32", Range::Deviation, 320000)?;
+    print_single(rt, "Run above 32", Range::Deviation, 0x42000001)?;
+    print_single(rt, "Run x7fc00000", Range::Deviation, 0x7fc00000)?;
+    print_decimal(rt, "Run 0.5", Range::Offset, 5000)?;
+    print_single(rt, "Tie 2.5", Range::Coefficient, 0x38200000)?;
+    print_single(rt, "Tie -3.5", Range::Coefficient, 0xb8600000)?;
     print_row(
         rt,
-        b"Saturate 65036",
+        "Saturate 65036",
         pixel::color_matrix::saturation_matrix(65036).g,
     )
 }
@@ -93,33 +64,25 @@ fn print_examples(rt: &impl Print) -> io::Result<()> {
 
 fn range_of(digit: u8) -> Range {
     match digit {
-        48 => Range::Fraction,
-        49 => Range::Deviation,
-        50 => Range::Radius,
-        51 => Range::Offset,
+        b'0' => Range::Fraction,
+        b'1' => Range::Deviation,
+        b'2' => Range::Radius,
+        b'3' => Range::Offset,
         _ => Range::Coefficient,
     }
 }
 
-// The number of a 64-bit two's complement.
-fn signed(bits: u64) -> i64 {
-    if bits < 9223372036854775808 {
-        return bits as i64;
-    }
-    -1 - ((18446744073709551615 - bits) as i64)
-}
-
 fn number_of(kind: u8, bits: u64) -> Number {
-    if kind == 115 {
+    if kind == b's' {
         return Number::Single(number::single((bits % 4294967296) as u32));
     }
-    Number::Decimal(signed(bits))
+    Number::Decimal(bits.cast_signed())
 }
 
 fn print_number_case(rt: &impl Print, line: &[u8]) -> io::Result<()>
     requires { length line.now ≡ 21 }
 {
-    print_word(rt, &line[..20])?;
+    rt.write_all(&line[..20])?;
     let bits = hex(line, 4, 16);
     print_judged(
         rt,

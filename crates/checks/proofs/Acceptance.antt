@@ -8,6 +8,7 @@ use native.Mathlib.Omega.{arith}
 use lib.Dec.{ltb, leb, eqb}
 use lib.ListN.{get_or}
 use lib.IntN.{pos}
+use Rattle.std.specs.Prelude.{Some, Ok, Err}
 use borrow.Author.Tests.{ltb-true, lt-ltb, leb-true, eqb-true, eq-eqb}
 use Rattle.number.specs.declared.Range.TheVariants as R
 use Rattle.number.specs.Number.{limit_of, value}
@@ -22,7 +23,7 @@ use Rattle.filter.specs.declared.Pass.{Pass}
 use Rattle.filter.specs.declared.Region.{Region}
 use Rattle.filter.specs.declared.Step.{Step}
 use Rattle.filter.specs.declared.Call.TheVariants as C
-use Rattle.filter.specs.declared.Answer.TheVariants as A
+use Rattle.filter.specs.declared.Refusal.TheVariants as A
 use Rattle.filter.specs.Answers.{accepted?}
 use Rattle.filter.specs.Bytes.{size}
 use Rattle.filter.specs.Signature.{signature_of, numbers_of, range_at}
@@ -99,11 +100,11 @@ module _ (s : Step) where
   given : (k : Convolution) → s.kind ≡ K.Convolve k → orders? k ≡ true → k.divided ≡ true → divides? s ≡ true → ¬ (value (value_at (values_of s) (cells k)) ≡ pos 0)
   given k e o d t z =
       let few : cells k < most_numbers = omega (arith, cells-few k (orders-allowed k o)) in
-      let at : divisor_place k ≡ cells k = rw (d, o) in
-      let place : (signature_of s.kind).divisor ≡ cells k = ap (λ (x : Kind). (signature_of x).divisor) e ∙ at in
+      let at : divisor_place k ≡ Some (cells k) = rw (d, o) in
+      let place : (signature_of s.kind).divisor ≡ Some (cells k) = ap (λ (x : Kind). (signature_of x).divisor) e ∙ at in
       let count : numbers_of s.kind ≡ cells k + 2 = ap numbers_of e ∙ rw (d, o) in
       let inside : ltb (cells k) (numbers_of s.kind) ≡ true = lt-ltb (cells k) (numbers_of s.kind) (omega (arith, count)) in
-      let some : not (zero? (units_at s (cells k))) ≡ true = rw (place, inside) at t in
+      let some : not (zero? (units_at s (cells k))) ≡ true = rw place at t in
       let same : value_at (values_of s) (cells k) ≡ units_at s (cells k) = value-at (cells k) few ∙ rw inside in
       zero-units (units_at s (cells k)) some (ap value (sym same) ∙ z)
 
@@ -171,11 +172,11 @@ count-within n e = let t = both_true (ltb 0 n) (leb n most_steps) e in (ltb-true
 pub accepted-sizes : (w h count source workspace scratch : ℕ) → accepted? (sizes_answer w h count source workspace scratch) ≡ true → AcceptedSizes w h count source workspace scratch
 unfolding sizes_answer accepted?
 accepted-sizes w h count source workspace scratch e =
-    let one = unless-accepted (canvas? w h) A.Canvas _ refl e in
-    let two = unless-accepted (eqb source (size w h)) A.Source _ refl one.1 in
-    let three = unless-accepted (count? count) A.StepCount _ refl two.1 in
-    let four = unless-accepted (eqb workspace (count * size w h)) A.Workspace _ refl three.1 in
-    let five = unless-accepted (eqb scratch (2 * size w h)) A.Scratch A.Done refl four.1 in
+    let one = unless-accepted (canvas? w h) (Err A.Canvas) _ refl e in
+    let two = unless-accepted (eqb source (size w h)) (Err A.Source) _ refl one.1 in
+    let three = unless-accepted (count? count) (Err A.StepCount) _ refl two.1 in
+    let four = unless-accepted (eqb workspace (count * size w h)) (Err A.Workspace) _ refl three.1 in
+    let five = unless-accepted (eqb scratch (2 * size w h)) (Err A.Scratch) (Ok tt) refl four.1 in
     let c = count-within count three.0 in
     record {
       canvas = canvas-within w h one.0;
@@ -189,4 +190,4 @@ accepted-sizes w h count source workspace scratch e =
 -- what `check_rectangle` answers
 pub accepted-rectangle : (w h : ℕ) (g : Region) → accepted? (rectangle_answer w h (C.Redraw g)) ≡ true → OnCanvas w h g
 unfolding accepted?
-accepted-rectangle w h g e = region-on w h g (unless-accepted (on_canvas? w h g) A.Rectangle A.Done refl e).0
+accepted-rectangle w h g e = region-on w h g (unless-accepted (on_canvas? w h g) (Err A.Rectangle) (Ok tt) refl e).0

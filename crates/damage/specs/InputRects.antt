@@ -23,4 +23,4 @@ pub record RectAdded (n : ℕ) (rect : Rect) (before now : SoFar) : Type 0 where
   pub rects : now.rects ≡ set before.rects n rect
   pub count : now.count ≡ before.count + area rect
   pub small : area rect ≤ most_pixels
-  pub linear : now.linear ≡ before.linear
+  pub spaces : now.spaces ≡ before.spaces

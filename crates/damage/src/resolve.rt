@@ -1,35 +1,26 @@
 // A step as the renderer works it: its shape, and its numbers in units.
-ghost use Rattle.std.specs.Prelude.{◌≡◌, ◌*◌, ◌≤◌};
+ghost use Rattle.std.specs.Prelude.{◌≡◌, ◌*◌, ◌≤◌, ltb, cond};
 ghost use Rattle.number.specs.Number.{judged, fixed_of, limit_of};
 ghost use Rattle.number.specs.declared.Range.TheVariants as Of;
 ghost use Rattle.window.specs.Window.{box_size};
+ghost use Rattle.filter.specs.Kinds.{no_value};
 ghost use Rattle.filter.specs.Signature.{range_in, pass_numbers};
 ghost use Rattle.filter.specs.Steps.{number_at, shift_of, radius_of, size_of, pixels_of, four_inputs, shaped, resolved};
 
 use filter::kinds::{number_count, range_in, signature_of};
 use filter::steps::{input_at, number_at};
 use filter::{Inputs, Kind, Pass, Resolved, Shape, Sheet, Shift, Step};
-use number::{Fixed, Judged, Range, judge};
+use number::{Fixed, Range, judge};
 use pixel::Space;
 use pixel::convert::convert;
 use pixel::flood::flood;
-use window::lesser;
+use std::array::from_fn;
 
-// The units of a judged number; 0 stands for those of a refused one.
-fn fixed(number: Judged) -> Fixed
-    ensures { result ≡ fixed_of number }
-{
-    match number {
-        Judged::Accepted(units) => units,
-        Judged::Refused(_) => Fixed { above: 0, below: 0 },
-    }
-}
-
-// The units of number i within a range.
+// The units of number i within a range; 0 stands for those of a refused one.
 fn units_at(step: Step, i: usize, range: Range) -> Fixed
     ensures { (result ≡ fixed_of (judged range (number_at step i))) × (result.above ≤ 65536 * limit_of range) × (result.below ≤ 65536 * limit_of range) }
 {
-    fixed(judge(range, number_at(step, i)))
+    judge(range, number_at(step, i)).unwrap_or(Fixed::ZERO)
 }
 
 // An offset in whole pixels.
@@ -73,8 +64,7 @@ fn pixels_at(pass: Pass, step: Step, i: usize) -> usize
 {
     match pass {
         Pass::Blur => size_at(step, i),
-        Pass::Erode => radius_at(step, i),
-        Pass::Dilate => radius_at(step, i),
+        Pass::Erode | Pass::Dilate => radius_at(step, i),
     }
 }
 
@@ -90,16 +80,15 @@ fn inputs(step: Step) -> Inputs
 }
 
 // What a step reads, and how far.
+#[tactic(auto, unfolding(filter::specs::Steps::shaped))]
 pub fn shape_of(step: Step) -> Shape
     ensures { result ≡ shaped step }
 {
-    let kind = step.kind;
-    match kind {
+    match step.kind {
         Kind::Flood(r, g, b) => {
             let opacity = units_at(step, 0, Range::Fraction);
             let made = flood(r, g, b, opacity.above);
-            let space = step.space;
-            Shape::Flood(convert(Space::Srgb, space, made))
+            Shape::Flood(convert(Space::Srgb, step.space, made))
         }
         Kind::Offset => Shape::Offset(input_at(step, 0), shift_at(step, 0), shift_at(step, 1)),
         Kind::Pass(p) => {
@@ -121,15 +110,19 @@ pub fn shape_of(step: Step) -> Shape
 pub fn resolve(step: Step) -> Resolved
     ensures { result ≡ resolved step }
 {
-    let kind = step.kind;
-    let signature = signature_of(kind);
-    let numbers = signature.numbers;
-    let count = lesser(number_count(numbers), Sheet::NUMBERS);
+    let numbers = signature_of(step.kind).numbers;
+    let count = number_count(numbers);
     let shape = shape_of(step);
-    let zero = Fixed { above: 0, below: 0 };
-    let mut values = [zero; Sheet::NUMBERS];
-    for i in 0..count {
-        values[i] = units_at(step, i, range_in(numbers, i));
-    }
+    let values = from_fn(
+        |i: usize| -> Fixed
+            ensures { result ≡ cond (ltb i count) (fixed_of (judged (range_in numbers i) (number_at step i))) no_value }
+        {
+            if i < count {
+                units_at(step, i, range_in(numbers, i))
+            } else {
+                Fixed::ZERO
+            }
+        },
+    );
     Resolved { shape, values }
 }

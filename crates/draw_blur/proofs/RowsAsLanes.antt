@@ -1,5 +1,5 @@
 -- Rows turned into lanes and back: one lane more, lanes that are worked, and a strip from lanes. Assumes nothing.
-use Prim.Native.Nat.{ℕ, ◌+◌, ◌-◌, ◌*◌, ◌≤◌, ◌<◌}
+use Prim.Native.Nat.{ℕ, ◌+◌, ◌-◌, ◌*◌, ◌≤◌, ◌<◌, min}
 use mathlib.Core.Path.{◌≡◌, refl, sym, ap, ◌∙◌}
 use mathlib.Core.List.{List}
 use mathlib.Core.Logic.{◌≢◌, ⊎_elim}
@@ -25,9 +25,6 @@ use Rattle.draw_window.proofs.StripRows.{strip-more}
 use Rattle.draw_window.proofs.BandIsEnough.{band-channel}
 use Rattle.draw_blur.specs.Lanes.{Lanes, Dealt, Gathered}
 
-lanes-none : (p : Picture) (o lo from to y : ℕ) (d : List ℕ) → Lanes p o lo from to y 0 d
-lanes-none p o lo from to y d = record { same = λ x k a b c. absurd (omega arith) }
-
 -- two lanes have no byte in common
 lane-apart : (a v j k c i : ℕ) → j < k → k < 8 → c < 4 → i < 4 → 0 + a * 32 + 4 * j + c ≢ 4 * k + v * 32 + i
 lane-apart a v j k c i h l m n e = absurd (omega arith)
@@ -51,9 +48,6 @@ lanes-more p from to y k row₀ row d d' few L G R = record {
       (lt-or-le j k);
 }
 
-pub dealt-none : (p : Picture) (s : Span) (y : ℕ) (d : List ℕ) → Dealt p s y 0 d d
-dealt-none p s y d = record { lanes = lanes-none p 0 s.from s.from s.to y d; outside = λ j h. refl; long = refl }
-
 pub dealt-more : (p : Picture) (s : Span) (y k : ℕ) (row₀ row d₀ d d' : List ℕ) → k < 8 → Dealt p s y k d₀ d → Loaded p (y + k) s.from s.to row₀ row
     → Rows (λ x c. byte_at row 0 4 x c) (4 * k) 32 4 (s.to - s.from) d d' → Dealt p s y (k + 1) d₀ d'
 dealt-more p s y k row₀ row d₀ d d' few S G R = record {
@@ -63,7 +57,7 @@ dealt-more p s y k row₀ row d₀ d d' few S G R = record {
 }
 
 -- lanes that are worked along the lines
-pub lanes-worked : (rule : Rule) (back ahead w h : ℕ) (p : Picture) → BlankOutside (canvas_of w h) p → Banded rule back ahead
+lanes-worked : (rule : Rule) (back ahead w h : ℕ) (p : Picture) → BlankOutside (canvas_of w h) p → Banded rule back ahead
     → (r y count left right lo hi : ℕ) (s s' : List ℕ) → LookedAt w left right back ahead lo hi → right ≤ w → count ≤ 8 → Lanes p 0 lo lo hi y count s
     → Worked rule r 32 (hi - lo) s s' → Lanes (across_of rule w p) r lo left right y count s'
 lanes-worked rule back ahead w h p blank B r y count left right lo hi s s' R wide few L K = record {
@@ -80,9 +74,6 @@ lanes-worked rule back ahead w h p blank B r y count left right lo hi s s' R wid
     lane k c j h m l =
         let e : 0 + j * 32 + (4 * k + c) ≡ 0 + (lo + j - lo) * 32 + 4 * k + c = omega arith in
         ap (λ (z : ℕ). get_or s z 0) e ∙ sym (channel-at s (0 + (lo + j - lo) * 32 + 4 * k) c m) ∙ ap (channel c) (L.same (lo + j) k (omega arith) (omega arith) h)
-
-pub gathered_none : (s : List ℕ) (o at width : ℕ) (d : List ℕ) → Gathered s o at width 0 d d
-gathered_none s o at width d = record { inside = λ k j h l. absurd (omega arith); before = λ i h. refl; after = λ i h. refl; long = refl }
 
 -- one row more
 pub gathered-more : (s : List ℕ) (o at width k : ℕ) (d₀ d d' : List ℕ) → Gathered s o at width k d₀ d
@@ -116,7 +107,7 @@ counted : (a b n c : ℕ) → c ≡ a + n → a ≤ b → b < c → b - a < n
 counted a b n c e l m = omega arith
 
 -- rows gathered from lanes are rows of the strip
-pub strip-gathered : (q : Picture) (r lo left right first y count at : ℕ) (s d d' : List ℕ) → lo ≤ left → first ≤ y → at ≡ (y - first) * (right - left)
+strip-gathered : (q : Picture) (r lo left right first y count at : ℕ) (s d d' : List ℕ) → lo ≤ left → first ≤ y → at ≡ (y - first) * (right - left)
     → Strip q 0 left right first y d → Lanes q r lo left right y count s → Gathered s (r + 32 * (left - lo)) at (right - left) count d d' → Strip q 0 left right first (y + count) d'
 strip-gathered q r lo left right first y count at s d d' skip from place S L G = strip-more q 0 left right first y (y + count) d d' from S
     (λ i l. G.before i (omega arith))
@@ -127,6 +118,15 @@ strip-gathered q r lo left right first y count at s d d' skip from place S L G =
     let i = row-place (v - first) (y - first) (v - y) (right - left) at (x - left) place k in
     let j = line-place r lo left x (4 * (v - y)) skip a in
     ap (pixel_at d') i ∙ G.inside (v - y) (x - left) (counted y v count (y + count) refl c e) (counted left x (right - left) right width a b) ∙ ap (pixel_at s) j ∙ L.same x (v - y) a b (counted y v count (y + count) refl c e) ∙ ap (q x) t)
+
+-- rows that were dealt, worked and gathered are rows of the strip, up to z
+pub strip-turn : (rule : Rule) (back ahead w h : ℕ) (p : Picture) → BlankOutside (canvas_of w h) p → Banded rule back ahead
+    → (r first y count bottom z left right lo hi at : ℕ) (s s' d d' : List ℕ) → LookedAt w left right back ahead lo hi → lo ≤ left → right ≤ w → count ≤ 8 → first ≤ y → y < bottom → y + count ≡ z
+    → at ≡ (y - first) * (right - left) → Strip (across_of rule w p) 0 left right first (min y bottom) d → Lanes p 0 lo lo hi y count s → Worked rule r 32 (hi - lo) s s'
+    → Gathered s' (r + 32 * (left - lo)) at (right - left) count d d' → Strip (across_of rule w p) 0 left right first z d'
+strip-turn rule back ahead w h p blank B r first y count bottom z left right lo hi at s s' d d' R skip wide few from under end place S L W G =
+    let e : min y bottom ≡ y = omega arith in
+    rw end at (strip-gathered (across_of rule w p) r lo left right first y count at s' d d' skip from place (rw e at S) (lanes-worked rule back ahead w h p blank B r y count left right lo hi s s' R wide few L W) G)
 
 -- count rows from y on end in the strip
 pub rows-room : (y first last count width : ℕ) → first ≤ y → y + count ≤ last → (y - first) * width + count * width ≤ (last - first) * width

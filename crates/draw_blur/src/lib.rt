@@ -15,7 +15,7 @@ use buffers::Context;
 use draw_window::looked_at;
 use filter::{Input, Rect};
 use lanes::{deal_rows, gather_rows};
-use window::{lesser, spread_of};
+use window::spread_of;
 
 // The bytes of such lines for the longest rows.
 const TILE: usize = 32 * window::SIDE;
@@ -67,16 +67,14 @@ pub fn blur_across(
     let skip = 32 * (left - span.from);
     let mut tile = [0u8; 2 * TILE];
     let mut sums = [0u16; 32];
-    let mut y = top;
-    while y < bottom {
-        let count = lesser(8, bottom - y);
+    for y in (top..bottom).step_by(8) {
+        let count = (bottom - y).min(8);
         deal_rows(
             workspace, source, context, pairs, input, y, count, span, &mut tile,
         );
         let o = pass_lines(&mut tile, TILE, 32, places, d, &mut sums);
         let at = (y - top) * width;
         gather_rows(&tile, o + skip, scratch, at, width, count);
-        y += count;
     }
 }
 

@@ -15,7 +15,13 @@ use Rattle.number.specs.declared.Fixed.{Fixed}
 use Rattle.filter.specs.declared.Rect.{Rect}
 use Rattle.buffers.specs.declared.Context.{Context}
 use Rattle.buffers.specs.declared.RowPart.{RowPart}
+use Rattle.buffers.specs.Shown.{shown}
+use Rattle.draw_convolve.specs.declared.view.View.{View}
 use Rattle.draw_convolve.specs.Convolved.{RowConvolved, RectConvolved}
+
+-- the picture that a step's input shows
+abbrev pub seen : View → Picture
+seen v = shown v.context v.source.now v.workspace.now v.input
 
 -- row y of the picture, as a convolution reads it, stands at its place in scratch, for the rows from .. to - 1
 pub record Staged (w : ℕ) (preserve : Bool) (g : Picture) (from to : ℕ) (d : List ℕ) : Type 0 where
@@ -35,15 +41,11 @@ pub record RowsRead (h : ℕ) (k : Convolution) (top bottom from to : ℕ) : Typ
 abbrev pub line_of : ℕ → ℕ → Convolution → Picture → ℕ → ℕ → ℕ → Pixel
 line_of w h k g y i m = extended k.edge h k.row (λ q. extended k.edge w k.column (λ p. as_read k.preserve (g p q)) m) (y + i)
 
--- what laying lines asks of the canvas, the kernel and the buffers
-pub record Laid (w h : ℕ) (k : Convolution) (scratch lines : List ℕ) : Type 0 where
+-- what laying lines asks of the canvas and the buffers
+pub record Laid (w h : ℕ) (scratch lines : List ℕ) : Type 0 where
   pub some_wide : 0 < w
   pub wide : w ≤ longest_side
   pub high : h ≤ longest_side
-  pub few_columns : k.columns ≤ 5
-  pub few_rows : k.rows ≤ 5
-  pub column : k.column < k.columns
-  pub row : k.row < k.rows
   pub scratch_is : length scratch ≡ 2 * size w h
   pub lines_are : length lines ≡ all_lines
 

@@ -5,11 +5,11 @@
 
 mod lines;
 mod stage;
+mod view;
 
 ghost use Rattle.std.specs.Prelude.{◌≡◌, true, ◌*◌, ◌<◌, length};
 ghost use Rattle.window.specs.Store.{WorkBuffer};
 ghost use Rattle.kernel_lines.specs.Lines.{all_lines};
-ghost use Rattle.kernel_lines.specs.Convolved.{Convolves};
 ghost use Rattle.filter.specs.Convolutions.{convolution?};
 ghost use Rattle.filter.specs.Signature.{convolution_numbers};
 ghost use Rattle.filter.specs.Checks.{allowed?};
@@ -22,73 +22,54 @@ ghost use Rattle.draw_convolve.specs.Staged.{RowFrom, RectFrom};
 use buffers::{Context, RowPart};
 use filter::{Input, Rect, Sheet};
 use kernel_convolve::convolve_row;
+use kernel_lines::Kernel;
 use lines::lay_lines;
 use number::Fixed;
 use pixel::Convolution;
 use stage::{rows_read, stage};
+use view::View;
 
 // A part of a row of the layer, from the rows in scratch.
 fn paint(
     workspace: &mut [u8],
     scratch: &[u8],
     context: Context,
-    convolution: Convolution,
-    values: [Fixed; Sheet::NUMBERS],
+    kernel: &Kernel,
     part: RowPart,
     lines: &mut [u8],
 )
     requires in_limits { InLimits context × LayerIn context workspace.old × OnRow context part × (part.from < part.to) }
-    requires scratch_len { (length scratch.now ≡ 2 * size context.w context.h) × Convolves convolution values × (length lines.old ≡ all_lines) }
-    ensures row_from { RowFrom context convolution values part scratch.now workspace.old workspace.new }
+    requires scratch_len { (length scratch.now ≡ 2 * size context.w context.h) × (length lines.old ≡ all_lines) }
+    ensures row_from { RowFrom context kernel.now.convolution kernel.now.values part scratch.now workspace.old workspace.new }
     ensures workspace_len_unchanged { (length workspace.new ≡ length workspace.old) × (length lines.new ≡ length lines.old) }
 {
     let count = part.to - part.from;
     let lo = buffers::start(context, part);
     let hi = lo + 4 * count;
-    lay_lines(scratch, context.w, context.h, convolution, part.y, lines);
-    convolve_row(
-        convolution,
-        values,
-        &lines[..],
-        part.from,
-        count,
-        &mut workspace[lo..hi],
-    );
+    lay_lines(scratch, context.w, context.h, kernel, part.y, lines);
+    convolve_row(kernel, &lines[..], part.from, count, &mut workspace[lo..hi]);
 }
 
 // Each row of the rectangle.
-fn paint_rows(
-    workspace: &mut [u8],
-    scratch: &[u8],
-    context: Context,
-    convolution: Convolution,
-    values: [Fixed; Sheet::NUMBERS],
-    rect: Rect,
-)
+fn paint_rows(workspace: &mut [u8], scratch: &[u8], context: Context, kernel: &Kernel, rect: Rect)
     requires in_limits { InLimits context × LayerIn context workspace.old × Within context.w context.h rect × (rect.left < rect.right) }
-    requires scratch_len { (length scratch.now ≡ 2 * size context.w context.h) × Convolves convolution values }
-    ensures { RectFrom context convolution values rect scratch.now workspace.old workspace.new }
+    requires scratch_len { length scratch.now ≡ 2 * size context.w context.h }
+    ensures { RectFrom context kernel.now.convolution kernel.now.values rect scratch.now workspace.old workspace.new }
 {
     let mut lines = [0u8; kernel_lines::LINES];
-    let left = rect.left;
-    let right = rect.right;
-    let top = rect.top;
-    let bottom = rect.bottom;
+    let Rect {
+        left,
+        right,
+        top,
+        bottom,
+    } = rect;
     for y in top..bottom {
         let part = RowPart {
             y,
             from: left,
             to: right,
         };
-        paint(
-            workspace,
-            scratch,
-            context,
-            convolution,
-            values,
-            part,
-            &mut lines,
-        );
+        paint(workspace, scratch, context, kernel, part, &mut lines);
     }
 }
 
@@ -110,22 +91,21 @@ pub fn draw_convolve(
     ensures convolve_drawn { ConvolveDrawn context convolution values input rect source.now workspace.old workspace.new }
     ensures work_buffer { WorkBuffer scratch.old scratch.new }
 {
-    if rect.right <= rect.left {
+    if rect.right <= rect.left || rect.bottom <= rect.top {
         return;
     }
-    if rect.bottom <= rect.top {
-        return;
-    }
+    let kernel = Kernel {
+        convolution,
+        values,
+    };
     let rows = rows_read(context.h, convolution, rect.top, rect.bottom);
-    stage(
-        &workspace[..],
+    let view = View {
+        workspace: &workspace[..],
         source,
-        scratch,
-        context,
         pairs,
+        context,
         input,
-        convolution.preserve,
-        rows,
-    );
-    paint_rows(workspace, &scratch[..], context, convolution, values, rect);
+    };
+    stage(view, scratch, convolution.preserve, rows);
+    paint_rows(workspace, &scratch[..], context, &kernel, rect);
 }

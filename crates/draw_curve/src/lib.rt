@@ -3,9 +3,8 @@
 #![tactic(auto)]
 
 mod maps;
-mod row;
 
-ghost use Rattle.std.specs.Prelude.{◌≡◌, true, ◌-◌, ◌*◌, ◌≤◌, length};
+ghost use Rattle.std.specs.Prelude.{◌≡◌, true, ◌≤◌, length};
 ghost use Rattle.kernel_remap.specs.Remaps.{maps_in, Inner};
 ghost use Rattle.filter.specs.Kinds.{curve_maps};
 ghost use Rattle.filter.specs.Curves.{transfers?};
@@ -13,20 +12,20 @@ ghost use Rattle.filter.specs.Signature.{curve_numbers};
 ghost use Rattle.filter.specs.Checks.{allowed?};
 ghost use Rattle.filter.specs.Accepted.{Within, Ranged};
 ghost use Rattle.filter.specs.Limits.{longest_side};
-ghost use Rattle.buffers.specs.Context.{Drawable, OnRow};
+ghost use Rattle.buffers.specs.Context.{Drawable};
 ghost use Rattle.buffers.specs.Seen.{converts?};
 ghost use Rattle.draw_curve.specs.Curve.{CurveDrawn};
-ghost use Rattle.draw_curve.specs.Code.{tabled?, Prepared, CurvePainted};
+ghost use Rattle.draw_curve.specs.Code.{tabled?};
 
-use buffers::spaces::converts;
-use buffers::{Context, RowPart};
+use buffers::Context;
+use buffers::rows::map_rows;
+use buffers::spaces::{as_kept, converts};
 use filter::{Input, Rect, Sheet};
-use kernel_remap::remap::prepare_maps;
+use kernel_remap::few::remap_few;
+use kernel_remap::remap::{prepare_maps, remap_row};
 use maps::fill_maps;
 use number::Fixed;
 use pixel::Transfers;
-use row::{curve_row, load_for};
-use window::less;
 
 // Tables cost as much as the maps of so many pixels without them.
 const TABLES_PAY: usize = 12000;
@@ -35,129 +34,40 @@ const TABLES_PAY: usize = 12000;
 fn pays(rect: Rect) -> bool
     requires { Within longest_side longest_side rect }
 {
-    TABLES_PAY <= less(rect.right, rect.left) * less(rect.bottom, rect.top)
+    TABLES_PAY <= rect.right.saturating_sub(rect.left) * rect.bottom.saturating_sub(rect.top)
 }
 
-// A part of a row of the layer; a is a work row.
-fn paint(
-    workspace: &mut [u8],
-    source: &[u8],
-    context: Context,
-    pairs: &[u8],
-    input: Input,
-    part: RowPart,
-    maps: &[u8],
-    tables: &[u8],
-    a: &mut [u8],
-)
-    requires drawable { Drawable context source.now workspace.old pairs.now × (allowed? context.n input ≡ true) × OnRow context part }
-    requires prepared { Prepared context input maps.now tables.now × (length a.old ≡ 4 * (part.to - part.from)) }
-    ensures { CurvePainted context maps.now input part source.now workspace.old workspace.new }
-{
-    let count = part.to - part.from;
-    let lo = buffers::start(context, part);
-    let hi = lo + 4 * count;
-    load_for(
-        &workspace[..],
-        source,
-        context,
-        pairs,
-        tables,
-        input,
-        part,
-        a,
-    );
-    curve_row(maps, tables, &a[..], &mut workspace[lo..hi], count);
-}
-
-// Each row of the rectangle.
-fn paint_rows(
-    workspace: &mut [u8],
-    source: &[u8],
-    context: Context,
-    pairs: &[u8],
-    input: Input,
-    rect: Rect,
-    maps: &[u8],
-    tables: &[u8],
-    a: &mut [u8],
-)
-    requires drawable { Drawable context source.now workspace.old pairs.now × (allowed? context.n input ≡ true) }
-    requires within { Within context.w context.h rect × (rect.left ≤ rect.right) }
-    requires prepared { Prepared context input maps.now tables.now × (length a.old ≡ 4 * (rect.right - rect.left)) }
-    ensures { CurveDrawn context (maps_in maps.now) input rect source.now workspace.old workspace.new }
-{
-    let left = rect.left;
-    let right = rect.right;
-    let top = rect.top;
-    let bottom = rect.bottom;
-    for y in top..bottom {
-        let part = RowPart {
-            y,
-            from: left,
-            to: right,
-        };
-        paint(
-            workspace, source, context, pairs, input, part, maps, tables, a,
-        );
-    }
-}
-
-// The same with a work row, which is exactly as wide as the rectangle.
-fn draw_prepared(
-    workspace: &mut [u8],
-    source: &[u8],
-    context: Context,
-    pairs: &[u8],
-    input: Input,
-    rect: Rect,
-    maps: &[u8],
-    tables: &[u8],
-)
-    requires drawable { Drawable context source.now workspace.old pairs.now × (allowed? context.n input ≡ true) }
-    requires within { Within context.w context.h rect × (rect.left ≤ rect.right) × Prepared context input maps.now tables.now }
-    ensures { CurveDrawn context (maps_in maps.now) input rect source.now workspace.old workspace.new }
-{
-    let mut a = [0u8; window::ROW];
-    let k = 4 * (rect.right - rect.left);
-    paint_rows(
-        workspace,
-        source,
-        context,
-        pairs,
-        input,
-        rect,
-        maps,
-        tables,
-        &mut a[..k],
-    );
-}
-
-// The tables are worked out once; `inner` is the table of the step's space where the input is converted, or empty.
+// The tables are worked out once; `inner` is the table of the step's space where the input is converted, or empty. The conversion is in the
+// tables, so the input is read as it is kept.
 fn draw_tabled(
     workspace: &mut [u8],
     source: &[u8],
     context: Context,
-    pairs: &[u8],
     input: Input,
     rect: Rect,
     maps: &[u8],
     inner: &[u8],
 )
-    requires drawable { Drawable context source.now workspace.old pairs.now × (allowed? context.n input ≡ true) }
+    requires drawable { Drawable context source.now workspace.old inner.now × (allowed? context.n input ≡ true) }
     requires within { Within context.w context.h rect × (rect.left ≤ rect.right) }
     requires maps_len { (length maps.now ≡ 1024) × Inner context.space inner.now × (tabled? inner.now ≡ converts? context input) }
     ensures { CurveDrawn context (maps_in maps.now) input rect source.now workspace.old workspace.new }
 {
     let mut tables = [0u8; 196608];
-    let space = context.space;
-    prepare_maps(space, inner, maps, &mut tables);
-    draw_prepared(
-        workspace, source, context, pairs, input, rect, maps, &tables,
+    prepare_maps(context.space, inner, maps, &mut tables);
+    let kept = as_kept(context, input);
+    map_rows(
+        workspace,
+        source,
+        kept,
+        &source[..0],
+        input,
+        rect,
+        |src, dst, n| remap_row(maps, &tables, src, dst, n),
     );
 }
 
-// By tables where they pay, if there is the table of the step's space for an input that is converted.
+// By tables where they pay, if there is the table of the step's space for an input that is converted; without them each pixel is remapped by itself.
 fn draw_maps(
     workspace: &mut [u8],
     source: &[u8],
@@ -171,20 +81,21 @@ fn draw_maps(
     requires within { Within context.w context.h rect × (rect.left ≤ rect.right) × (length maps.now ≡ 1024) }
     ensures { CurveDrawn context (maps_in maps.now) input rect source.now workspace.old workspace.new }
 {
-    let none = &source[..0];
-    if !pays(rect) {
-        draw_prepared(workspace, source, context, pairs, input, rect, maps, none);
+    let converted = converts(context, input);
+    if pays(rect) && (!converted || 0 < pairs.len()) {
+        let inner = if converted { pairs } else { &source[..0] };
+        draw_tabled(workspace, source, context, input, rect, maps, inner);
         return;
     }
-    if !converts(context, input) {
-        draw_tabled(workspace, source, context, pairs, input, rect, maps, none);
-        return;
-    }
-    if 0 < pairs.len() {
-        draw_tabled(workspace, source, context, pairs, input, rect, maps, pairs);
-        return;
-    }
-    draw_prepared(workspace, source, context, pairs, input, rect, maps, none);
+    map_rows(
+        workspace,
+        source,
+        context,
+        pairs,
+        input,
+        rect,
+        |src, dst, n| remap_few(maps, src, dst, n),
+    );
 }
 
 // The step inside one rectangle; nothing else of the workspace changes. `pairs` is the table of its space, or empty.

@@ -18,15 +18,9 @@ pub fn fill_maps(transfers: Transfers, values: [Fixed; Sheet::NUMBERS], maps: &m
     ensures { HoldsMaps (curve_maps transfers values) maps.new }
 {
     let numbers = curve_numbers(transfers);
-    let first = numbers.first;
-    let second = numbers.second;
-    let third = numbers.third;
-    let r = transfers.r;
-    let g = transfers.g;
-    let b = transfers.b;
-    let a = transfers.a;
+    let Transfers { r, g, b, a } = transfers;
     fill_map(r, values, 0, maps, 0);
-    fill_map(g, values, first.end, maps, 256);
-    fill_map(b, values, second.end, maps, 512);
-    fill_map(a, values, third.end, maps, 768);
+    fill_map(g, values, numbers.first.end, maps, 256);
+    fill_map(b, values, numbers.second.end, maps, 512);
+    fill_map(a, values, numbers.third.end, maps, 768);
 }

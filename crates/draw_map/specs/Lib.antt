@@ -1,3 +1,2 @@
 -- What drawing a step of the shape map leaves.
 pub mod Map
-pub mod Code

@@ -14,12 +14,13 @@ fn matrix_row_of(values: [Fixed; Sheet::NUMBERS], i: usize) -> MatrixRow
     requires { i ≤ 15 }
     ensures { result ≡ matrix_row_of values i }
 {
-    let r = values[i];
-    let g = values[i + 1];
-    let b = values[i + 2];
-    let a = values[i + 3];
-    let one = values[i + 4];
-    MatrixRow { r, g, b, a, one }
+    MatrixRow {
+        r: values[i],
+        g: values[i + 1],
+        b: values[i + 2],
+        a: values[i + 3],
+        one: values[i + 4],
+    }
 }
 
 // "20, four rows of five."
@@ -39,6 +40,5 @@ pub fn saturate_of(values: [Fixed; Sheet::NUMBERS]) -> Matrix
     requires { (value_at values 0).above ≤ 65536 }
     ensures { (result ≡ saturation (value_at values 0).above) × AllowedMatrix result }
 {
-    let s = values[0];
-    saturation_matrix(s.above)
+    saturation_matrix(values[0].above)
 }

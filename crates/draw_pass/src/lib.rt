@@ -81,10 +81,7 @@ pub fn draw_pass(
     ensures pass_drawn { PassDrawn context pass input dx dy rect source.now workspace.old workspace.new }
     ensures work_buffer { WorkBuffer scratch.old scratch.new }
 {
-    if rect.right <= rect.left {
-        return;
-    }
-    if rect.bottom <= rect.top {
+    if rect.right <= rect.left || rect.bottom <= rect.top {
         return;
     }
     let back = back_of(pass, dy);

@@ -67,15 +67,11 @@ fn paint_rows(
     requires work_row { WorkRow rect.left rect.right a.old × WorkRow rect.left rect.right g.old × WorkRow rect.left rect.right row.old }
     ensures { ShapeDrawn context shape rect source.now workspace.old workspace.new }
 {
-    let left = rect.left;
-    let right = rect.right;
-    let top = rect.top;
-    let bottom = rect.bottom;
-    for y in top..bottom {
+    for y in rect.top..rect.bottom {
         let part = RowPart {
             y,
-            from: left,
-            to: right,
+            from: rect.left,
+            to: rect.right,
         };
         paint(workspace, source, context, pairs, shape, part, a, g, row);
     }

@@ -14,16 +14,12 @@ use filter::{Input, Inputs};
 fn merge_input_at(inputs: Inputs, j: usize) -> Input
     ensures { result ≡ merge_input_at inputs j }
 {
-    if j == 0 {
-        return inputs.first;
+    match j {
+        0 => inputs.first,
+        1 => inputs.second,
+        2 => inputs.third,
+        _ => inputs.fourth,
     }
-    if j == 1 {
-        return inputs.second;
-    }
-    if j == 2 {
-        return inputs.third;
-    }
-    inputs.fourth
 }
 
 // An input's row, laid over what the row `under` holds.

@@ -15,14 +15,7 @@ use pixel::Pixel;
 fn cut(t: usize, m: usize, w: usize) -> usize
     ensures { result ≡ min (t - m) w }
 {
-    if t <= m {
-        return 0;
-    }
-    let r = t - m;
-    if w < r {
-        return w;
-    }
-    r
+    t.saturating_sub(m).min(w)
 }
 
 // A part of a row that shows nothing.

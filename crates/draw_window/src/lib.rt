@@ -5,8 +5,6 @@ ghost use Rattle.std.specs.Prelude.{◌-◌, ◌≤◌, ◌<◌};
 ghost use Rattle.window.specs.Limits.{longest_side};
 ghost use Rattle.draw_window.specs.LookedAt.{LookedAt};
 
-use window::{less, lesser};
-
 // Places from .. to - 1 of a line.
 #[derive(Clone, Copy)]
 pub struct Span {
@@ -20,7 +18,7 @@ pub fn looked_at(n: usize, from: usize, to: usize, back: usize, ahead: usize) ->
     ensures { LookedAt n from to back ahead result.from result.to }
 {
     Span {
-        from: less(from, back),
-        to: lesser(n, to + ahead),
+        from: from.saturating_sub(back),
+        to: n.min(to + ahead),
     }
 }

@@ -5,17 +5,49 @@ use mathlib.Core.Bool.{Bool, true, false, false≢true}
 use native.Mathlib.Decide.{dec_lt}
 use native.Mathlib.Omega.{arith}
 use lib.Dec.{leb}
+use Rattle.std.specs.Prelude.{Ok, Err, is_ok, ⊤}
 use borrow.Author.Tests.{leb-true}
 use Rattle.number.specs.declared.Fault as F
 use Rattle.number.specs.declared.Fault.TheVariants.{NotFinite, Negative, OutOfRange, NotWhole}
-use Rattle.number.specs.declared.Judged.TheVariants.{Refused}
 use Rattle.number.specs.Number.{fault_number}
-use Rattle.filter.specs.declared.Answer.{Answer}
-use Rattle.filter.specs.declared.Answer.TheVariants as A
+use Rattle.filter.specs.declared.Refusal.{Refusal}
+use Rattle.filter.specs.declared.Refusal.TheVariants as A
 use Rattle.filter.specs.declared.Step.{Step}
-use Rattle.filter.specs.Answers.{number_of, accepted?}
+use Rattle.filter.specs.Answers.{Answer, number_of, accepted?}
 use Rattle.filter.specs.Checks.{unless, or_else, first_of, inputs?, tables?, kernel?, number_answer, numbers_answer, divides?, on_canvas?, step_answer}
 use Rattle.filter.proofs.Earlier.{both_true}
+
+-- "A call is accepted when its number is 0": no refusal has that number
+pub refused : (e : Refusal) → accepted? (Err e) ≡ false
+unfolding accepted?
+refused A.Canvas = refl
+refused A.Source = refl
+refused A.StepCount = refl
+refused A.Workspace = refl
+refused A.Scratch = refl
+refused A.Rectangle = refl
+refused (A.Input n) = refl
+refused (A.TableSize n) = refl
+refused (A.Kernel n) = refl
+refused (A.NotFinite n) = refl
+refused (A.Negative n) = refl
+refused (A.OutOfRange n) = refl
+refused (A.NotWhole n) = refl
+refused (A.OutsideCanvas n) = refl
+refused (A.AboveAlpha p) = refl
+
+pub accepted-is : (a : Answer) → is_ok a ≡ accepted? a
+unfolding accepted?
+accepted-is (Ok u) = refl
+accepted-is (Err e) = sym (refused e)
+
+-- a refusal stays the answer, and after none the next answer is it: what `?` does
+pub else-err : (e : Refusal) (b : Answer) → or_else (Err e) b ≡ Err e
+else-err e b = ap (λ t. unless t (Err e) b) (refused e)
+
+pub else-ok : (u : ⊤) (b : Answer) → or_else (Ok u) b ≡ b
+unfolding accepted?
+else-ok u b = refl
 
 -- a refusal stays the answer, whatever comes after it
 first-kept : (f : ℕ → Answer) (n : ℕ) → accepted? (first_of f n) ≡ false → first_of f (suc n) ≡ first_of f n
@@ -57,7 +89,7 @@ first-accepted f (suc n) i e l =
     elim (dec_lt i n) [ yes m ↦ first-accepted f n i t.0 m | no m ↦ (let q : i ≡ n = omega arith in rw q t.1) ]
 
 -- a number's refusal has the same number by itself and as a step's answer
-pub fault-number : (n : ℕ) (f : F.Fault) → number_of (number_answer n (Refused f)) ≡ fault_number f
+pub fault-number : (n : ℕ) (f : F.Fault) → number_of (number_answer n (Err f)) ≡ fault_number f
 fault-number n NotFinite = refl
 fault-number n Negative = refl
 fault-number n OutOfRange = refl
@@ -76,12 +108,12 @@ pub record Passed (w h n : ℕ) (s : Step) : Type 0 where
 pub step-accepted : (w h n : ℕ) (s : Step) → accepted? (step_answer w h n s) ≡ true → Passed w h n s
 unfolding step_answer accepted?
 step-accepted w h n s e =
-    let seven = unless-accepted (inputs? n s) (A.Input n) _ refl e in
-    let sixteen = unless-accepted (tables? s) (A.TableSize n) _ refl seven.1 in
-    let seventeen = unless-accepted (kernel? s) (A.Kernel n) _ refl sixteen.1 in
+    let seven = unless-accepted (inputs? n s) (Err (A.Input n)) _ refl e in
+    let sixteen = unless-accepted (tables? s) (Err (A.TableSize n)) _ refl seven.1 in
+    let seventeen = unless-accepted (kernel? s) (Err (A.Kernel n)) _ refl sixteen.1 in
     let eleven = else-accepted (numbers_answer n s) _ seventeen.1 in
-    let divided = unless-accepted (divides? s) (A.Kernel n) _ refl eleven.1 in
-    let thirteen = both_true (leb (s.region.x + s.region.width) w) _ (unless-accepted (on_canvas? w h s.region) (A.OutsideCanvas n) A.Done refl divided.1).0 in
+    let divided = unless-accepted (divides? s) (Err (A.Kernel n)) _ refl eleven.1 in
+    let thirteen = both_true (leb (s.region.x + s.region.width) w) _ (unless-accepted (on_canvas? w h s.region) (Err (A.OutsideCanvas n)) (Ok tt) refl divided.1).0 in
     record {
       inputs = seven.0;
       tables = sixteen.0;

@@ -12,10 +12,10 @@ use Rattle.number.specs.declared.Range.TheVariants.{Deviation}
 use Rattle.window.specs.Window.{box_size, passes, passes_of}
 use Rattle.filter.specs.declared.Kind.{Kind}
 use Rattle.filter.specs.declared.Step.{Step}
-use Rattle.filter.specs.declared.Answer as A
-use Rattle.filter.specs.declared.Answer.TheVariants.{Done, Canvas, Source, StepCount, Workspace, Scratch, Rectangle, Input, TableSize, Kernel, NotFinite, Negative, OutOfRange, NotWhole, OutsideCanvas, AboveAlpha}
+use Rattle.std.specs.Prelude.{Ok, Err}
+use Rattle.filter.specs.declared.Refusal.TheVariants.{Canvas, Source, StepCount, Workspace, Scratch, Rectangle, Input, TableSize, Kernel, NotFinite, Negative, OutOfRange, NotWhole, OutsideCanvas, AboveAlpha}
 use Rattle.filter.specs.Steps.{number_at}
-use Rattle.filter.specs.Answers.{number_of}
+use Rattle.filter.specs.Answers.{Answer, number_of}
 use Rattle.filter.specs.Checks.{step_answer}
 use Rattle.filter.specs.Retired.{widest, boxes_of, boxes, boxes_worked, widest_of, most_bytes, most_sum, widest_by, boxes?, step_answer_with}
 use Rattle.filter.proofs.UnitsInRange.{fixed-in-range}
@@ -76,7 +76,7 @@ never-too-wide s = le-leb _ 65535 (go (widest_by (number_at s 0)) (widest_by (nu
     go a b p q = let m : max a b ≤ 61 = max-le p q in omega arith
 
 -- and the answer is the same without it: of the old order none was ever the answer that stood there
-pub same-without-12 : (asked : Kind → Bool) (twelve : A.Answer) (w h n : ℕ) (s : Step) → step_answer_with asked twelve w h n s ≡ step_answer w h n s
+pub same-without-12 : (asked : Kind → Bool) (twelve : Answer) (w h n : ℕ) (s : Step) → step_answer_with asked twelve w h n s ≡ step_answer w h n s
 unfolding step_answer_with step_answer
 same-without-12 asked twelve w h n s = rw (holds (asked s.kind))
   where
@@ -85,20 +85,20 @@ same-without-12 asked twelve w h n s = rw (holds (asked s.kind))
     holds false = refl
 
 -- the number is given no more
-pub never-12 : (a : A.Answer) → number_of a ≡ 12 → ⊥
-never-12 Done e = omega arith
-never-12 Canvas e = omega arith
-never-12 Source e = omega arith
-never-12 StepCount e = omega arith
-never-12 Workspace e = omega arith
-never-12 Scratch e = omega arith
-never-12 Rectangle e = omega arith
-never-12 (Input n) e = omega arith
-never-12 (TableSize n) e = omega arith
-never-12 (Kernel n) e = omega arith
-never-12 (NotFinite n) e = omega arith
-never-12 (Negative n) e = omega arith
-never-12 (OutOfRange n) e = omega arith
-never-12 (NotWhole n) e = omega arith
-never-12 (OutsideCanvas n) e = omega arith
-never-12 (AboveAlpha n) e = omega arith
+pub never-12 : (a : Answer) → number_of a ≡ 12 → ⊥
+never-12 (Ok u) e = omega arith
+never-12 (Err Canvas) e = omega arith
+never-12 (Err Source) e = omega arith
+never-12 (Err StepCount) e = omega arith
+never-12 (Err Workspace) e = omega arith
+never-12 (Err Scratch) e = omega arith
+never-12 (Err Rectangle) e = omega arith
+never-12 (Err (Input n)) e = omega arith
+never-12 (Err (TableSize n)) e = omega arith
+never-12 (Err (Kernel n)) e = omega arith
+never-12 (Err (NotFinite n)) e = omega arith
+never-12 (Err (Negative n)) e = omega arith
+never-12 (Err (OutOfRange n)) e = omega arith
+never-12 (Err (NotWhole n)) e = omega arith
+never-12 (Err (OutsideCanvas n)) e = omega arith
+never-12 (Err (AboveAlpha n)) e = omega arith

@@ -1,5 +1,5 @@
 -- Worked examples of convolutions on small canvases; values worked by hand. Assumes nothing.
-use Rattle.std.specs.Prelude.{ℕ, ◌+◌, ◌*◌, ◌≡◌, refl, Bool, true, false, List, [], ◌∷◌, ◌++◌, get_or, replicate, ℤ, pos, negsuc}
+use Rattle.std.specs.Prelude.{ℕ, ◌+◌, ◌*◌, ◌≡◌, refl, Bool, true, false, List, [], ◌∷◌, ◌++◌, get_or, replicate, ℤ, pos, negsuc, Ok, Err}
 use Rattle.number.specs.Fraction.{nearest}
 use Rattle.number.specs.Number.{judged_ratio}
 use Rattle.pixel.specs.declared.Space.TheVariants.{Srgb}
@@ -15,7 +15,7 @@ use Rattle.filter.specs.declared.Input.TheVariants.{Source, Layer}
 use Rattle.filter.specs.declared.Kind.TheVariants.{Convolve}
 use Rattle.filter.specs.declared.Rect.{Rect}
 use Rattle.filter.specs.declared.Step.{Step}
-use Rattle.filter.specs.declared.Answer.TheVariants as A
+use Rattle.filter.specs.declared.Refusal.TheVariants as A
 use Rattle.filter.specs.Rect.{canvas_of, inside, filled, join, empty}
 use Rattle.filter.specs.Picture.{blank, patch}
 use Rattle.filter.specs.Reach.{grow}
@@ -40,7 +40,7 @@ abbrev pub convolving : I.Input → Convolution → List ℤ → ℕ → ℕ →
 convolving i k ns w h = record {
   kind = Convolve k;
   region = record { x = 0; y = 0; width = w; height = h };
-  inputs = record { input = i } ∷ replicate 3 no_input;
+  inputs = i ∷ replicate 3 no_input;
   numbers = decimals ns ++ replicate 55 no_number;
   space = Srgb;
 }
@@ -102,16 +102,16 @@ pub record Convolutions : Type 0 where
       × (redraw_of 8 8 (kernel 4 3 1 2 false Wrap) (rect 3 3 1 1) ≡ rect 0 0 8 8)
       × (redraw_of 8 8 (kernel 1 1 0 0 false Duplicate) (rect 7 7 1 1) ≡ rect 0 0 8 8) × (redraw_of 8 8 (kernel 1 1 0 0 false Duplicate) (rect 3 3 0 1) ≡ empty)
   -- 17 for orders of 0 and 6 and for a target outside; after 7, and before a number is looked at: here the first is 300
-  pub orders : (step_answer 1 1 3 (convolving Source (kernel 0 1 0 0 false None) (pos 3000000 ∷ []) 1 1) ≡ A.Kernel 3)
-      × (step_answer 1 1 3 (convolving Source (kernel 1 6 0 0 false None) (pos 3000000 ∷ []) 1 1) ≡ A.Kernel 3)
-  pub targets : (step_answer 1 1 3 (convolving Source (kernel 3 2 3 0 false None) (pos 3000000 ∷ []) 1 1) ≡ A.Kernel 3)
-      × (step_answer 1 1 3 (convolving Source (kernel 3 2 2 2 false None) (pos 3000000 ∷ []) 1 1) ≡ A.Kernel 3)
-  pub input_first : step_answer 1 1 3 (convolving (Layer 3) (kernel 0 1 0 0 false None) [] 1 1) ≡ A.Input 3
+  pub orders : (step_answer 1 1 3 (convolving Source (kernel 0 1 0 0 false None) (pos 3000000 ∷ []) 1 1) ≡ Err (A.Kernel 3))
+      × (step_answer 1 1 3 (convolving Source (kernel 1 6 0 0 false None) (pos 3000000 ∷ []) 1 1) ≡ Err (A.Kernel 3))
+  pub targets : (step_answer 1 1 3 (convolving Source (kernel 3 2 3 0 false None) (pos 3000000 ∷ []) 1 1) ≡ Err (A.Kernel 3))
+      × (step_answer 1 1 3 (convolving Source (kernel 3 2 2 2 false None) (pos 3000000 ∷ []) 1 1) ≡ Err (A.Kernel 3))
+  pub input_first : step_answer 1 1 3 (convolving (Layer 3) (kernel 0 1 0 0 false None) [] 1 1) ≡ Err (A.Input 3)
   -- a divisor of 0 after the bias, which here is 300, and before 13; where none is given the bias may be 0
-  pub divisor : (step_answer 1 1 3 (convolving Source (kernel 1 1 0 0 true None) (pos 10000 ∷ pos 0 ∷ pos 3000000 ∷ []) 2 1) ≡ A.OutOfRange 3)
-      × (step_answer 1 1 3 (convolving Source (kernel 1 1 0 0 true None) (pos 10000 ∷ pos 0 ∷ pos 0 ∷ []) 2 1) ≡ A.Kernel 3)
-      × (step_answer 1 1 3 (convolving Source (kernel 1 1 0 0 false None) (pos 10000 ∷ pos 0 ∷ []) 2 1) ≡ A.OutsideCanvas 3)
-      × (step_answer 1 1 3 (convolving Source (kernel 1 1 0 0 false None) (pos 10000 ∷ pos 0 ∷ []) 1 1) ≡ A.Done)
+  pub divisor : (step_answer 1 1 3 (convolving Source (kernel 1 1 0 0 true None) (pos 10000 ∷ pos 0 ∷ pos 3000000 ∷ []) 2 1) ≡ Err (A.OutOfRange 3))
+      × (step_answer 1 1 3 (convolving Source (kernel 1 1 0 0 true None) (pos 10000 ∷ pos 0 ∷ pos 0 ∷ []) 2 1) ≡ Err (A.Kernel 3))
+      × (step_answer 1 1 3 (convolving Source (kernel 1 1 0 0 false None) (pos 10000 ∷ pos 0 ∷ []) 2 1) ≡ Err (A.OutsideCanvas 3))
+      × (step_answer 1 1 3 (convolving Source (kernel 1 1 0 0 false None) (pos 10000 ∷ pos 0 ∷ []) 1 1) ≡ Ok tt)
 
 pub convolutions : Convolutions
 unfolding differ? converted sum divisor_of extended quotient neighbour weighed convolved space_of effect_of shaped values_of work_of reads

@@ -1,8 +1,8 @@
 -- The orders, the target and the numbers of a convolution (RULES 5.14). Assumes nothing.
-use Rattle.std.specs.Prelude.{ℕ, ◌+◌, Bool, cond, ◌&&◌, ltb, leb}
+use Rattle.std.specs.Prelude.{ℕ, ◌+◌, Bool, cond, ◌&&◌, ltb, leb, Option, Some, None}
 use Rattle.pixel.specs.declared.Convolution.{Convolution}
 use Rattle.pixel.specs.Convolve.{cells}
-use Rattle.filter.specs.Limits.{most_order, most_numbers}
+use Rattle.filter.specs.Limits.{most_order}
 
 -- "orders 1 to 5 each way"
 abbrev pub order? : ℕ → Bool
@@ -26,6 +26,6 @@ values_in k = cond (orders? k) (cells k) 0
 abbrev pub convolution_count : Convolution → ℕ
 convolution_count k = values_in k + cond k.divided 2 1
 
--- which number is the divisor; none has this place where no divisor is given
-abbrev pub divisor_place : Convolution → ℕ
-divisor_place k = cond k.divided (values_in k) most_numbers
+-- which number is the divisor; none where no divisor is given
+abbrev pub divisor_place : Convolution → Option ℕ
+divisor_place k = cond k.divided (Some (values_in k)) None

@@ -1,5 +1,5 @@
 -- Worked examples of curves, on a canvas of one pixel; values worked by hand. Assumes nothing.
-use Rattle.std.specs.Prelude.{◌≡◌, refl, List, [], ◌∷◌, ◌++◌, map, replicate, ℤ, pos, negsuc}
+use Rattle.std.specs.Prelude.{◌≡◌, refl, List, [], ◌∷◌, ◌++◌, map, replicate, ℤ, pos, negsuc, Err}
 use Rattle.number.specs.declared.Number.TheVariants.{Decimal}
 use Rattle.number.specs.Fraction.{nearest}
 use Rattle.number.specs.Number.{judged_ratio}
@@ -17,9 +17,9 @@ use Rattle.filter.specs.declared.Input as I
 use Rattle.filter.specs.declared.Input.TheVariants.{Source, Layer}
 use Rattle.filter.specs.declared.Map.TheVariants.{Curve}
 use Rattle.filter.specs.declared.Kind.TheVariants as K
-use Rattle.filter.specs.declared.StepNumber.{StepNumber}
+use Rattle.number.specs.declared.Number.{Number}
 use Rattle.filter.specs.declared.Step.{Step}
-use Rattle.filter.specs.declared.Answer.TheVariants as A
+use Rattle.filter.specs.declared.Refusal.TheVariants as A
 use Rattle.filter.specs.Rect.{canvas_of, inside}
 use Rattle.filter.specs.Picture.{blank, patch}
 use Rattle.filter.specs.Layers.{rendered, replaced, initial}
@@ -29,15 +29,15 @@ use Rattle.filter.specs.Sheets.{space_of, effect_of, effects_of}
 use Rattle.filter.specs.Answers.{accepted?}
 use Rattle.filter.specs.Checks.{first_of, all, inputs?, numbers_answer, step_answer}
 
-abbrev pub decimals : List ℤ → List StepNumber
-decimals = map (λ (z : ℤ). record { number = Decimal z })
+abbrev pub decimals : List ℤ → List Number
+decimals = map Decimal
 
 -- a curve of the four transfers with numbers in ten-thousandths
 abbrev pub curve : P.Space → I.Input → Transfer → Transfer → Transfer → Transfer → List ℤ → Step
 curve s i r g b a ns = record {
   kind = K.Map (Curve (record { r = r; g = g; b = b; a = a }));
   region = record { x = 0; y = 0; width = 1; height = 1 };
-  inputs = record { input = i } ∷ replicate 3 no_input;
+  inputs = i ∷ replicate 3 no_input;
   numbers = decimals ns ++ replicate 57 no_number;
   space = s;
 }
@@ -63,13 +63,13 @@ pub record Curves : Type 0 where
   pub from_nothing : curved (curve Srgb Source T.Identity T.Identity T.Linear (T.Table 1) (pos 10000 ∷ pos 2500 ∷ pos 3333 ∷ [])) (pixel 0 0 0 0)
       ≡ pixel 0 0 21 85
   -- 16 for 0 and for 17 entries; after 7, and before a number is looked at: here the first is 2, above what a table allows
-  pub none : step_answer 1 1 3 (curve Srgb Source (T.Table 0) T.Identity T.Identity T.Identity []) ≡ A.TableSize 3
-  pub many : step_answer 1 1 3 (curve Srgb Source T.Identity T.Identity T.Identity (T.Discrete 17) (pos 20000 ∷ [])) ≡ A.TableSize 3
-  pub input_first : step_answer 1 1 3 (curve Srgb (Layer 3) (T.Table 0) T.Identity T.Identity T.Identity []) ≡ A.Input 3
+  pub none : step_answer 1 1 3 (curve Srgb Source (T.Table 0) T.Identity T.Identity T.Identity []) ≡ Err (A.TableSize 3)
+  pub many : step_answer 1 1 3 (curve Srgb Source T.Identity T.Identity T.Identity (T.Discrete 17) (pos 20000 ∷ [])) ≡ Err (A.TableSize 3)
+  pub input_first : step_answer 1 1 3 (curve Srgb (Layer 3) (T.Table 0) T.Identity T.Identity T.Identity []) ≡ Err (A.Input 3)
   -- 9 for an entry below 0, 10 for one above 1; a slope may be both
-  pub entry_below : step_answer 1 1 3 (curve Srgb Source T.Identity (T.Table 1) T.Identity T.Identity (negsuc 0 ∷ [])) ≡ A.Negative 3
+  pub entry_below : step_answer 1 1 3 (curve Srgb Source T.Identity (T.Table 1) T.Identity T.Identity (negsuc 0 ∷ [])) ≡ Err (A.Negative 3)
   pub entry_above : step_answer 1 1 3 (curve Srgb Source T.Linear (T.Discrete 1) T.Identity T.Identity (negsuc 19999 ∷ pos 20000 ∷ pos 10001 ∷ []))
-      ≡ A.OutOfRange 3
+      ≡ Err (A.OutOfRange 3)
 
 pub curves : Curves
 unfolding differ? converted remapped to_linear table_channel discrete_channel linear_channel transferred space_of effect_of shaped values_of mapped work_of

@@ -1,13 +1,13 @@
 -- Refusal 12, retired: "255 times a blur's widest box is above 65,535". The test as it was, so that it can be said that it never failed. Assumes nothing.
-use Rattle.std.specs.Prelude.{ℕ, ◌+◌, ◌-◌, ◌*◌, ◌/◌, ◌%◌, max, Bool, true, false, cond, List, [], ◌∷◌, ltb, leb, eqb}
+use Rattle.std.specs.Prelude.{ℕ, ◌+◌, ◌-◌, ◌*◌, ◌/◌, ◌%◌, max, Bool, true, false, cond, List, [], ◌∷◌, ltb, leb, eqb, Ok, Err}
 use Rattle.number.specs.declared.Number as N
 use Rattle.number.specs.declared.Range.TheVariants.{Deviation}
 use Rattle.number.specs.Number.{judged, fixed_of}
 use Rattle.window.specs.Window.{box}
 use Rattle.filter.specs.declared.Kind.{Kind}
 use Rattle.filter.specs.declared.Step.{Step}
-use Rattle.filter.specs.declared.Answer.{Answer}
-use Rattle.filter.specs.declared.Answer.TheVariants as A
+use Rattle.filter.specs.declared.Refusal.TheVariants as A
+use Rattle.filter.specs.Answers.{Answer}
 use Rattle.filter.specs.Reach.{Axis, span}
 use Rattle.filter.specs.Steps.{number_at, size_of}
 use Rattle.filter.specs.Checks.{unless, or_else, inputs?, tables?, kernel?, numbers_answer, divides?, on_canvas?}
@@ -52,11 +52,11 @@ boxes? s = leb (255 * max (widest_by (number_at s 0)) (widest_by (number_at s 1)
 -- the order of checking as it was: the test is asked of some kinds, and there is some answer where it fails
 unfoldable pub step_answer_with : (Kind → Bool) → Answer → ℕ → ℕ → ℕ → Step → Answer
 step_answer_with asked twelve w h n s =
-    unless (inputs? n s) (A.Input n)
-    (unless (tables? s) (A.TableSize n)
-    (unless (kernel? s) (A.Kernel n)
+    unless (inputs? n s) (Err (A.Input n))
+    (unless (tables? s) (Err (A.TableSize n))
+    (unless (kernel? s) (Err (A.Kernel n))
     (or_else (numbers_answer n s)
     (unless (cond (asked s.kind) (boxes? s) true) twelve
-    (unless (divides? s) (A.Kernel n)
-    (unless (on_canvas? w h s.region) (A.OutsideCanvas n)
-    A.Done))))))
+    (unless (divides? s) (Err (A.Kernel n))
+    (unless (on_canvas? w h s.region) (Err (A.OutsideCanvas n))
+    (Ok tt)))))))

@@ -1,5 +1,5 @@
 -- The table of steps (RULES 5.1): one row a kind. Assumes nothing.
-use Rattle.std.specs.Prelude.{ℕ, ◌+◌, Bool, true, cond, ltb}
+use Rattle.std.specs.Prelude.{ℕ, ◌+◌, Bool, true, cond, ltb, None}
 use Rattle.number.specs.declared.Range.{Range}
 use Rattle.number.specs.declared.Range.TheVariants as R
 use Rattle.pixel.specs.declared.Transfers.{Transfers}
@@ -12,7 +12,6 @@ use Rattle.filter.specs.declared.Kind.TheVariants as K
 use Rattle.filter.specs.declared.Group.{Group}
 use Rattle.filter.specs.declared.Numbers.{Numbers}
 use Rattle.filter.specs.declared.Signature.{Signature}
-use Rattle.filter.specs.Limits.{most_numbers}
 use Rattle.filter.specs.Curves.{transfers?, transfer_count, transfer_range}
 use Rattle.filter.specs.Convolutions.{convolution?, convolution_count, divisor_place}
 
@@ -72,13 +71,13 @@ convolution_numbers k = alike (convolution_count k) R.Coefficient
 
 -- bytes, inputs at least and in all, and the numbers, of a kind without tables, kernel and divisor
 abbrev pub signature : ℕ → ℕ → ℕ → Numbers → Signature
-signature b l i ns = record { bytes = b; least = l; inputs = i; tables = true; kernel = true; divisor = most_numbers; numbers = ns }
+signature b l i ns = record { bytes = b; least = l; inputs = i; tables = true; kernel = true; divisor = None; numbers = ns }
 
 abbrev pub signature_of : Kind → Signature
 signature_of (K.Flood r g b) = signature 3 0 0 (alike 1 R.Fraction)
 signature_of K.Offset = signature 0 1 1 (alike 2 R.Offset)
 signature_of (K.Pass p) = signature 0 1 1 (pass_numbers p)
-signature_of (K.Map m) = record { bytes = 0; least = 1; inputs = 1; tables = map_tables? m; kernel = true; divisor = most_numbers; numbers = map_numbers m }
+signature_of (K.Map m) = record { bytes = 0; least = 1; inputs = 1; tables = map_tables? m; kernel = true; divisor = None; numbers = map_numbers m }
 signature_of (K.Pair p) = signature 0 1 2 (pair_numbers p)
 signature_of (K.Merge n) = signature 0 1 n (alike 0 R.Coefficient)
 signature_of (K.Convolve k) =

@@ -29,8 +29,8 @@ abbrev pub step_in : S.Space → Kind → I.Input → I.Input → ℕ → Step
 step_in s k i j a = record {
   kind = k;
   region = record { x = 0; y = 0; width = 1; height = 1 };
-  inputs = record { input = i } ∷ record { input = j } ∷ replicate 2 no_input;
-  numbers = record { number = Decimal (pos a) } ∷ replicate 63 no_number;
+  inputs = i ∷ j ∷ replicate 2 no_input;
+  numbers = Decimal (pos a) ∷ replicate 63 no_number;
   space = s;
 }
 

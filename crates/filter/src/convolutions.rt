@@ -4,36 +4,30 @@ ghost use Rattle.filter.specs.Convolutions.{order?, orders?, target?, convolutio
 
 use super::Sheet;
 use pixel::Convolution;
-use window::both;
 
 fn order_allowed(n: usize) -> bool
     ensures { result ≡ order? n }
 {
-    both(0 < n, n <= Sheet::ORDER)
+    0 < n && n <= Sheet::ORDER
 }
 
 pub fn orders_allowed(convolution: Convolution) -> bool
     ensures { result ≡ orders? convolution }
 {
-    let columns = order_allowed(convolution.columns);
-    both(columns, order_allowed(convolution.rows))
+    order_allowed(convolution.columns) && order_allowed(convolution.rows)
 }
 
 fn target_inside(convolution: Convolution) -> bool
     ensures { result ≡ target? convolution }
 {
-    both(
-        convolution.column < convolution.columns,
-        convolution.row < convolution.rows,
-    )
+    convolution.column < convolution.columns && convolution.row < convolution.rows
 }
 
 // 17.
 pub fn is_allowed(convolution: Convolution) -> bool
     ensures { result ≡ convolution? convolution }
 {
-    let orders = orders_allowed(convolution);
-    both(orders, target_inside(convolution))
+    orders_allowed(convolution) && target_inside(convolution)
 }
 
 // Orders that a record claims may be any: those that 17 refuses have no values, so that no product leaves a word.
@@ -58,11 +52,11 @@ pub fn convolution_count(convolution: Convolution) -> usize
 }
 
 // Which of them is the divisor; none where none is given.
-pub fn divisor_place(convolution: Convolution) -> usize
+pub fn divisor_place(convolution: Convolution) -> Option<usize>
     ensures { result ≡ divisor_place convolution }
 {
     if convolution.divided {
-        return values_in(convolution);
+        return Some(values_in(convolution));
     }
-    Sheet::NUMBERS
+    None
 }

@@ -6,22 +6,19 @@ ghost use Rattle.filter.specs.Limits.{most_entries};
 use super::Sheet;
 use number::Range;
 use pixel::{Transfer, Transfers};
-use window::both;
 
 fn entries_allowed(n: usize) -> bool
     ensures { result ≡ entries? n }
 {
-    both(0 < n, n <= Sheet::ENTRIES)
+    0 < n && n <= Sheet::ENTRIES
 }
 
 fn is_allowed(transfer: Transfer) -> bool
     ensures { result ≡ transfer? transfer }
 {
     match transfer {
-        Transfer::Identity => true,
-        Transfer::Table(n) => entries_allowed(n),
-        Transfer::Discrete(n) => entries_allowed(n),
-        Transfer::Linear => true,
+        Transfer::Table(n) | Transfer::Discrete(n) => entries_allowed(n),
+        Transfer::Identity | Transfer::Linear => true,
     }
 }
 
@@ -29,14 +26,10 @@ fn is_allowed(transfer: Transfer) -> bool
 pub fn are_allowed(transfers: Transfers) -> bool
     ensures { result ≡ transfers? transfers }
 {
-    let r = transfers.r;
-    let g = transfers.g;
-    let b = transfers.b;
-    let a = transfers.a;
-    both(
-        is_allowed(r),
-        both(is_allowed(g), both(is_allowed(b), is_allowed(a))),
-    )
+    is_allowed(transfers.r)
+        && is_allowed(transfers.g)
+        && is_allowed(transfers.b)
+        && is_allowed(transfers.a)
 }
 
 // A count that a record claims may be any: one that 16 refuses adds nothing, so that no sum leaves a word.
@@ -54,8 +47,7 @@ pub fn transfer_count(transfer: Transfer) -> usize
 {
     match transfer {
         Transfer::Identity => 0,
-        Transfer::Table(n) => entries_of(n),
-        Transfer::Discrete(n) => entries_of(n),
+        Transfer::Table(n) | Transfer::Discrete(n) => entries_of(n),
         Transfer::Linear => 2,
     }
 }
@@ -64,9 +56,7 @@ pub fn transfer_range(transfer: Transfer) -> Range
     ensures { result ≡ transfer_range transfer }
 {
     match transfer {
-        Transfer::Identity => Range::Fraction,
-        Transfer::Table(_) => Range::Fraction,
-        Transfer::Discrete(_) => Range::Fraction,
+        Transfer::Identity | Transfer::Table(_) | Transfer::Discrete(_) => Range::Fraction,
         Transfer::Linear => Range::Coefficient,
     }
 }

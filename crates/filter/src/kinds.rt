@@ -19,7 +19,7 @@ ghost use Rattle.filter.specs.Signature.{
 
 use super::convolutions::{convolution_count, divisor_place, is_allowed};
 use super::curves::{are_allowed, transfer_count, transfer_range};
-use super::{Group, Kind, Map, Numbers, Pair, Pass, Sheet, Signature};
+use super::{Group, Kind, Map, Numbers, Pair, Pass, Signature};
 use number::Range;
 use pixel::Transfers;
 use window::spread_of;
@@ -47,10 +47,7 @@ fn group(end: usize, range: Range) -> Group
 pub fn curve_numbers(transfers: Transfers) -> Numbers
     ensures { result ≡ curve_numbers transfers }
 {
-    let r = transfers.r;
-    let g = transfers.g;
-    let b = transfers.b;
-    let a = transfers.a;
+    let Transfers { r, g, b, a } = transfers;
     let first = transfer_count(r);
     let second = first + transfer_count(g);
     let third = second + transfer_count(b);
@@ -79,9 +76,7 @@ pub fn map_tables(map: Map) -> bool
     ensures { result ≡ map_tables? map }
 {
     match map {
-        Map::Matrix => true,
-        Map::Saturate => true,
-        Map::Luminance => true,
+        Map::Matrix | Map::Saturate | Map::Luminance => true,
         Map::Curve(transfers) => are_allowed(transfers),
     }
 }
@@ -100,8 +95,7 @@ pub fn pass_numbers(pass: Pass) -> Numbers
 {
     match pass {
         Pass::Blur => numbers_alike(2, Range::Deviation),
-        Pass::Erode => numbers_alike(2, Range::Radius),
-        Pass::Dilate => numbers_alike(2, Range::Radius),
+        Pass::Erode | Pass::Dilate => numbers_alike(2, Range::Radius),
     }
 }
 
@@ -112,8 +106,7 @@ pub fn back_of(pass: Pass, d: usize) -> usize
 {
     match pass {
         Pass::Blur => spread_of(d),
-        Pass::Erode => d,
-        Pass::Dilate => d,
+        Pass::Erode | Pass::Dilate => d,
     }
 }
 
@@ -124,8 +117,7 @@ pub fn ahead_of(pass: Pass, d: usize) -> usize
 {
     match pass {
         Pass::Blur => spread_of(d),
-        Pass::Erode => d,
-        Pass::Dilate => d,
+        Pass::Erode | Pass::Dilate => d,
     }
 }
 
@@ -139,7 +131,7 @@ fn signature(bytes: usize, least: usize, inputs: usize, numbers: Numbers) -> Sig
         inputs,
         tables: true,
         kernel: true,
-        divisor: Sheet::NUMBERS,
+        divisor: None,
         numbers,
     }
 }
@@ -152,24 +144,20 @@ pub fn signature_of(kind: Kind) -> Signature
         Kind::Offset => signature(0, 1, 1, numbers_alike(2, Range::Offset)),
         Kind::Pass(pass) => signature(0, 1, 1, pass_numbers(pass)),
         Kind::Map(map) => Signature {
-            bytes: 0,
-            least: 1,
-            inputs: 1,
             tables: map_tables(map),
-            kernel: true,
-            divisor: Sheet::NUMBERS,
-            numbers: map_numbers(map),
+            ..signature(0, 1, 1, map_numbers(map))
         },
         Kind::Pair(pair) => signature(0, 1, 2, pair_numbers(pair)),
         Kind::Merge(n) => signature(0, 1, n, numbers_alike(0, Range::Coefficient)),
         Kind::Convolve(convolution) => Signature {
-            bytes: 0,
-            least: 1,
-            inputs: 1,
-            tables: true,
             kernel: is_allowed(convolution),
             divisor: divisor_place(convolution),
-            numbers: numbers_alike(convolution_count(convolution), Range::Coefficient),
+            ..signature(
+                0,
+                1,
+                1,
+                numbers_alike(convolution_count(convolution), Range::Coefficient),
+            )
         },
     }
 }
@@ -178,26 +166,27 @@ pub fn signature_of(kind: Kind) -> Signature
 pub fn number_count(numbers: Numbers) -> usize
     ensures { result ≡ number_count numbers }
 {
-    let last = numbers.fourth;
-    last.end
+    numbers.fourth.end
 }
 
 // What is allowed for number i.
 pub fn range_in(numbers: Numbers, i: usize) -> Range
     ensures { result ≡ range_in numbers i }
 {
-    let first = numbers.first;
+    let Numbers {
+        first,
+        second,
+        third,
+        fourth,
+    } = numbers;
     if i < first.end {
         return first.range;
     }
-    let second = numbers.second;
     if i < second.end {
         return second.range;
     }
-    let third = numbers.third;
     if i < third.end {
         return third.range;
     }
-    let fourth = numbers.fourth;
     fourth.range
 }

@@ -2,3 +2,4 @@
 pub mod UnpremultiplyByProduct
 pub mod PremultipliedRows
 pub mod LuminanceByTable
+pub mod LentParts

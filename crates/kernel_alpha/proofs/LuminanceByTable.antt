@@ -1,20 +1,14 @@
 -- Luminance to alpha: its three rows of zeros, and its row for A. Assumes nothing.
 use mathlib.Core.Path.{◌≡◌, sym, ◌∙◌}
-use Prim.Native.Nat.{ℕ, ◌+◌, ◌-◌, ◌*◌, ◌/◌, ◌≤◌, ◌<◌}
+use Prim.Native.Nat.{ℕ, ◌+◌, ◌*◌, ◌/◌, ◌<◌}
 use native.Mathlib.Nat.{zero-mul}
 use native.Mathlib.Omega.{arith}
-use mathlib.Core.List.{List}
-use borrow.Author.Tests.{lt-ltb, le-ltb}
 use lib.IntN.{pos}
-use lib.ListN.{length}
-use Rattle.window.specs.Store.{Filled}
 use Rattle.pixel.specs.declared.Pixel.{Pixel}
 use Rattle.pixel.specs.Alpha.{pixel, unpremultiplied, premultiplied, Valid}
 use Rattle.pixel.specs.Matrix.{matrix_channel, luminance, by_matrix}
 use Rattle.pixel.proofs.Premultiplied.{unpremultiplied-byte}
 use Rattle.pixel.proofs.ByMatrix.{matrix-natural}
-use Rattle.kernel_alpha.specs.Tables.{LuminanceTable}
-use Rattle.kernel_alpha.specs.Code.{luminance_entry}
 
 nothing : (r g b a : ℕ) → matrix_channel (pos 0) (pos 0) (pos 0) (pos 0) (pos 0) r g b a ≡ 0
 nothing r g b a = sym (matrix-natural 0 0 0 0 0 0 0 0 0 0 r g b a) ∙ simp zero-mul
@@ -37,20 +31,3 @@ luminance-pixel p v ok e =
     let n = nothing r g b p.a in
     let w = luminance-channel r g b p.a (unpremultiplied-byte p.r p.a ok.r) (unpremultiplied-byte p.g p.a ok.g) (unpremultiplied-byte p.b p.a ok.b) in
     rw (n, w, premultiplied-zero, e)
-
--- the entries one after another are the record's
-pub luminance-table-of : (d d' : List ℕ) → length d ≡ 768 → Filled luminance_entry 0 768 d d' → LuminanceTable d'
-luminance-table-of d d' long F = record {
-  long = F.long ∙ long;
-  red = λ x l. F.inside x (omega arith) (omega arith) ∙ simp (lt-ltb _ _ l);
-  green = λ x l.
-      let h : 256 ≤ x + 256 = omega arith in
-      let k : x + 256 < 512 = omega arith in
-      let e : x + 256 - 256 ≡ x = omega arith in
-      F.inside (x + 256) (omega arith) (omega arith) ∙ simp (le-ltb _ _ h, lt-ltb _ _ k, e);
-  blue = λ x l.
-      let h : 256 ≤ x + 512 = omega arith in
-      let k : 512 ≤ x + 512 = omega arith in
-      let e : x + 512 - 512 ≡ x = omega arith in
-      F.inside (x + 512) (omega arith) (omega arith) ∙ simp (le-ltb _ _ h, le-ltb _ _ k, e);
-}

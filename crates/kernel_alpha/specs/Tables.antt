@@ -1,9 +1,10 @@
 -- What the tables hold that depend on no step. Assumes nothing.
-use Rattle.std.specs.Prelude.{ℕ, ◌+◌, ◌-◌, ◌*◌, ◌/◌, ◌<◌, ◌≡◌, cond, List, eqb, length, get_or}
+use Rattle.std.specs.Prelude.{ℕ, ◌+◌, ◌*◌, ◌/◌, ◌<◌, ◌≡◌, cond, List, eqb, length, get_or}
+use Rattle.std.specs.Int.{div_ceil}
 
 -- n / a, rounded up, and 0 where a is 0
 abbrev pub ceiling : ℕ → ℕ → ℕ
-ceiling n a = cond (eqb a 0) 0 ((n + (a - 1)) / a)
+ceiling n a = cond (eqb a 0) 0 (div_ceil n a)
 
 -- for every alpha a: 255 · 65,536 / a and (a ÷ 2) · 65,536 / a, rounded up
 pub record UnpremultiplyTable (table : List ℕ) : Type 0 where

@@ -1,26 +1,22 @@
 // Luminance to alpha: the colours of the result are 0, so only its alpha is worked.
-ghost use Rattle.std.specs.Prelude.{◌≡◌, ◌+◌, ◌*◌, ◌/◌, ◌≤◌, ◌<◌, length};
+ghost use Rattle.std.specs.Prelude.{◌≡◌, ℕ, ◌+◌, ◌*◌, ◌/◌, ◌≤◌, ◌<◌, length, slice_index};
 ghost use Rattle.pixel.specs.Alpha.{Valid};
 ghost use Rattle.pixel.specs.Matrix.{luminance, by_matrix};
 ghost use Rattle.pixel.specs.Bytes.{pixel_at, Painted, ValidRow};
 ghost use Rattle.kernel_alpha.specs.Tables.{UnpremultiplyTable, LuminanceTable};
-ghost use Rattle.kernel_alpha.specs.Code.{luminance_entry};
 
 use super::store::put;
 use super::unpremultiply::unpremultiply;
 
-// The products of R, then of G, then of B.
-fn entry(i: usize) -> u32
-    requires { i < 768 }
-    ensures { result ≡ luminance_entry i }
+// Each byte by a weight, with what rounds.
+fn products(part: &mut [u32], weight: u32, rounding: u32)
+    requires { (length part.old ≡ 256) × (weight ≤ 65536) × (rounding ≤ 32768) }
+    ensures len { length part.new ≡ 256 }
+    ensures each { (x : ℕ) → x < 256 → slice_index part.new x ≡ weight * x + rounding }
 {
-    if i < 256 {
-        return 13926 * (i as u32);
+    for (x, product) in part.iter_mut().enumerate() {
+        *product = weight * (x as u32) + rounding;
     }
-    if i < 512 {
-        return 46884 * ((i - 256) as u32);
-    }
-    4725 * ((i - 512) as u32) + 32768
 }
 
 // The table of luminance; it depends on no step.
@@ -28,9 +24,11 @@ pub fn prepare(table: &mut [u32])
     requires { length table.old ≡ 768 }
     ensures { LuminanceTable table.new }
 {
-    for i in 0usize..768 {
-        table[i] = entry(i);
-    }
+    let (red, rest) = table.split_at_mut(256);
+    let (green, blue) = rest.split_at_mut(256);
+    products(red, 13926, 0);
+    products(green, 46884, 0);
+    products(blue, 4725, 32768);
 }
 
 // The new alpha of a pixel whose colours are unpremultiplied.

@@ -27,8 +27,8 @@ fn scale_row(f: &[u8], d: &mut [u8])
     requires { length d.old ≤ length f.now }
     ensures { Filled (scaled_by d.old f.now) 0 (length d.old) d.old d.new }
 {
-    for i in 0..d.len() {
-        d[i] = premultiply(d[i], f[i]);
+    for (i, x) in d.iter_mut().enumerate() {
+        *x = premultiply(*x, f[i]);
     }
 }
 

@@ -4,7 +4,6 @@ ghost use Rattle.pixel.specs.Alpha.{unpremultiplied, straight, Valid};
 ghost use Rattle.pixel.specs.Bytes.{pixel_at, Painted, ValidRow};
 ghost use Rattle.pixel.specs.Word.{Packed, unpacked};
 ghost use Rattle.kernel_alpha.specs.Tables.{ceiling, UnpremultiplyTable};
-ghost use Rattle.kernel_alpha.specs.Code.{reciprocal};
 
 use pixel::{Pixel, bytes};
 
@@ -16,19 +15,7 @@ fn rounded_up(n: u32, a: u32) -> u32
     if a == 0 {
         return 0;
     }
-    (n + (a - 1)) / a
-}
-
-// The factors of every alpha, then what is added.
-fn entry(i: usize) -> u32
-    requires { i < 512 }
-    ensures { result ≡ reciprocal i }
-{
-    if i < 256 {
-        return rounded_up(16711680, i as u32);
-    }
-    let a = (i - 256) as u32;
-    rounded_up(a / 2 * 65536, a)
+    n.div_ceil(a)
 }
 
 // The table of every alpha; it depends on no step.
@@ -36,8 +23,13 @@ pub fn prepare(table: &mut [u32])
     requires { length table.old ≡ 512 }
     ensures { UnpremultiplyTable table.new }
 {
-    for i in 0usize..512 {
-        table[i] = entry(i);
+    let (scale, half) = table.split_at_mut(256);
+    for (a, entry) in scale.iter_mut().enumerate() {
+        *entry = rounded_up(16711680, a as u32);
+    }
+    for (a, entry) in half.iter_mut().enumerate() {
+        let a = a as u32;
+        *entry = rounded_up(a / 2 * 65536, a);
     }
 }
 
@@ -60,7 +52,7 @@ fn straight_word(table: &[u32], v: u32) -> u32
         r: unpremultiply(table, (v % 256) as u8, a) as u8,
         g: unpremultiply(table, (v / 256 % 256) as u8, a) as u8,
         b: unpremultiply(table, (v / 65536 % 256) as u8, a) as u8,
-        a: a,
+        a,
     })
 }
 

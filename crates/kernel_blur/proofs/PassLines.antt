@@ -5,7 +5,7 @@ use Prim.Native.Nat.{ℕ, ◌+◌, ◌-◌, ◌*◌, ◌/◌, ◌≤◌, ◌<◌
 use mathlib.Core.Logic.{⊎_elim}
 use native.Mathlib.Nat.{mul-le-mul_right}
 use native.Mathlib.Omega.{arith}
-use lib.ListN.{get_or}
+use lib.ListN.{length, get_or}
 use Rattle.window.specs.Store.{Filled, Lined}
 use Rattle.window.specs.Window.{behind, mean}
 use Rattle.window.proofs.Store.{lt-or-le}
@@ -30,7 +30,7 @@ module _ (p : BoxPass) (d s : List ℕ) (y : ℕ) (R : PassReady p d s) (S : Sum
   next_le i = rounded-le p.back p.ahead (columns p d i) (y + 1) (columns-lt p d bytes i)
 
   -- what comes and what goes make the next sum
-  pub slid : (i t u : ℕ) → i < p.n → t ≡ columns p d i (y + p.ahead) → u ≡ behind (p.back + 1) (columns p d i) y → (u ≤ get_or s i 0 + t) × (get_or s i 0 + t - u ≡ next p d y i)
+  slid : (i t u : ℕ) → i < p.n → t ≡ columns p d i (y + p.ahead) → u ≡ behind (p.back + 1) (columns p d i) y → (u ≤ get_or s i 0 + t) × (get_or s i 0 + t - u ≡ next p d y i)
   slid i t u h e g =
       let k = running-slide p.back p.ahead (columns p d i) y in
       (omega (arith, S i h, k), omega (arith, S i h, k))
@@ -74,47 +74,58 @@ module _ (p : BoxPass) (d s : List ℕ) (y : ℕ) (R : PassReady p d s) (S : Sum
         (u ≤ get_or s i 0 + t) × (get_or s i 0 + t - u ≡ next p d y i)
     inner-slid i h = slid i _ _ h (sym (column-in d p.from p.n p.count i (y + p.ahead) y-ahead)) (sym (leaving p d i y behind-y (omega arith)))
 
-pub advanced-none : (p : BoxPass) (y : ℕ) (d s : List ℕ) → Sums p d y s → Advanced p y y d s d s
-advanced-none p y d s S = record {
-  inside = λ v i l h k. absurd (omega arith);
-  before = λ j h. refl;
-  after = λ j h. refl;
-  long = refl;
-  sums = S;
-  sums_long = refl;
+-- after the lines up to y the buffer and the sums serve line y
+pub record Run (p : BoxPass) (d s : List ℕ) (y : ℕ) (d' s' : List ℕ) : Type 0 where
+  pub ready : PassReady p d' s'
+  pub here : Sums p d' y s'
+  pub done : Advanced p 0 y d s d' s'
+
+pub run-start : (p : BoxPass) (d s s' : List ℕ) → PassReady p d s' → Sums p d 0 s' → length s' ≡ length s → Run p d s 0 d s'
+run-start p d s s' R S long = record {
+  ready = R;
+  here = S;
+  done = record {
+    inside = λ v i l h k. absurd (omega arith);
+    before = λ j h. refl;
+    after = λ j h. refl;
+    long = refl;
+    sums = S;
+    sums_long = long;
+  };
 }
 
--- after some lines the buffer and the sums serve the next
-module _ (p : BoxPass) (x y : ℕ) (d s d' s' : List ℕ) (R : PassReady p d s) (le : x ≤ y) (most : y ≤ p.count) (A : Advanced p x y d s d' s') where
+-- one line more
+module _ (p : BoxPass) (d s : List ℕ) (y : ℕ) (d' s' d'' s'' : List ℕ) (R : Run p d s y d' s') (less : y < p.count) (B : Advanced p y (y + 1) d' s' d'' s'') where
+  columns-kept : (lo hi : ℕ) (d₁ d₂ s₁ s₂ : List ℕ) → lo ≤ hi → hi ≤ p.count → Advanced p lo hi d₁ s₁ d₂ s₂ → (i : ℕ) → i < p.n → columns p d₂ i ≡ columns p d₁ i
+  columns-kept lo hi d₁ d₂ s₁ s₂ l most A i h =
+      kept-column p.from p.to p.n p.count (p.to + lo * p.n) (p.to + hi * p.n) d₁ d₂ R.ready.apart (omega arith) (omega (arith, mul-le-mul_right p.n most)) A.before A.after i h
+
   same : (i : ℕ) → i < p.n → columns p d' i ≡ columns p d i
-  same i h = kept-column p.from p.to p.n p.count (p.to + x * p.n) (p.to + y * p.n) d d' R.apart (omega arith) (omega (arith, mul-le-mul_right p.n most)) A.before A.after i h
+  same = columns-kept 0 y d d' s s' (omega arith) (omega arith) R.done
 
-  pub ready : PassReady p d' s'
-  ready = record {
-    source = omega (arith, R.source, A.long);
-    target = omega (arith, R.target, A.long);
-    apart = R.apart;
-    sums = omega (arith, R.sums, A.sums_long);
-    limit = R.limit;
-    few = R.few;
-    divides = R.divides;
-  }
-
-  pub present : Sums p d' y s'
-  present i h = rw (same i h) (A.sums i h)
-
-  -- lines after lines
-  pub advanced-then : (z : ℕ) (d'' s'' : List ℕ) → y ≤ z → Advanced p y z d' s' d'' s'' → Advanced p x z d s d'' s''
-  advanced-then z d'' s'' l B = record {
-    inside = λ v i lo hi h. ⊎_elim
-        (λ lt. B.before (p.to + v * p.n + i) (omega (arith, line-end p.n y v lt)) ∙ A.inside v i lo lt h)
-        (λ ge. B.inside v i ge hi h ∙ ap (λ (f : ℕ → ℕ). mean p.back p.ahead f v) (same i h))
-        (lt-or-le v y);
-    before = λ j h. B.before j (omega (arith, mul-le-mul_right p.n le)) ∙ A.before j h;
-    after = λ j h. B.after j h ∙ A.after j (omega (arith, mul-le-mul_right p.n l));
-    long = B.long ∙ A.long;
-    sums = λ i h. B.sums i h ∙ ap (λ (f : ℕ → ℕ). rounded p.back p.ahead f z) (same i h);
-    sums_long = B.sums_long ∙ A.sums_long;
+  pub run-more : Run p d s (y + 1) d'' s''
+  run-more = record {
+    ready = record {
+      source = omega (arith, R.ready.source, B.long);
+      target = omega (arith, R.ready.target, B.long);
+      apart = R.ready.apart;
+      sums = omega (arith, R.ready.sums, B.sums_long);
+      limit = R.ready.limit;
+      few = R.ready.few;
+      divides = R.ready.divides;
+    };
+    here = λ i h. rw (columns-kept y (y + 1) d' d'' s' s'' (omega arith) (omega arith) B i h) (B.sums i h);
+    done = record {
+      inside = λ v i lo hi h. ⊎_elim
+          (λ lt. B.before (p.to + v * p.n + i) (omega (arith, line-end p.n y v lt)) ∙ R.done.inside v i lo lt h)
+          (λ ge. B.inside v i ge hi h ∙ ap (λ (f : ℕ → ℕ). mean p.back p.ahead f v) (same i h))
+          (lt-or-le v y);
+      before = λ j h. B.before j (omega (arith, h)) ∙ R.done.before j h;
+      after = λ j h. B.after j h ∙ R.done.after j (omega arith);
+      long = B.long ∙ R.done.long;
+      sums = λ i h. B.sums i h ∙ ap (λ (f : ℕ → ℕ). rounded p.back p.ahead f (y + 1)) (same i h);
+      sums_long = B.sums_long ∙ R.done.sums_long;
+    };
   }
 
 -- all lines are stored

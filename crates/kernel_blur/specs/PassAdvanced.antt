@@ -15,7 +15,7 @@ pub record PassReady (p : BoxPass) (d s : List ℕ) : Type 0 where
   pub sums : p.n ≤ length s
   pub limit : p.back + p.ahead + 1 ≤ 61
   pub few : p.count ≤ 65536
-  pub divides : Divides p.mul p.shift (p.back + p.ahead + 1)
+  pub divides : Divides p.by.mul p.by.shift (p.back + p.ahead + 1)
 
 -- d' and s' are d and s after the lines y up to z: these are stored, and the sums are those before line z
 pub record Advanced (p : BoxPass) (y z : ℕ) (d s d' s' : List ℕ) : Type 0 where

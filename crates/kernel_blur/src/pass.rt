@@ -8,7 +8,6 @@ ghost use Rattle.kernel_blur.specs.PassAdvanced.{PassReady, Advanced};
 use kernel_sums::reciprocal::reciprocal_of;
 use kernel_sums::running::{BoxPass, enter, leave, start};
 use kernel_sums::sums::{means, slide_line};
-use window::{greater, lesser};
 
 // One line of the pass, near the first or the last.
 fn edge_line(buf: &mut [u8], p: BoxPass, y: usize, sums: &mut [u16])
@@ -17,13 +16,11 @@ fn edge_line(buf: &mut [u8], p: BoxPass, y: usize, sums: &mut [u16])
 {
     enter(&buf[..], p, y + p.ahead, sums);
     leave(&buf[..], p, y, sums);
+    let to = p.to + y * p.n;
     means(
-        buf,
-        p.to + y * p.n,
+        &mut buf[to..to + p.n],
         &sums[..],
-        p.n,
-        p.mul,
-        p.shift,
+        p.by,
         p.back + p.ahead + 1,
     );
 }
@@ -35,38 +32,9 @@ fn inner_line(buf: &mut [u8], p: BoxPass, y: usize, sums: &mut [u16])
 {
     let enters = p.from + (y + p.ahead) * p.n;
     let leaves = p.from + (y - p.back - 1) * p.n;
+    let to = p.to + y * p.n;
     let size = p.back + p.ahead + 1;
-    slide_line(
-        buf,
-        enters,
-        leaves,
-        p.to + y * p.n,
-        sums,
-        p.n,
-        p.mul,
-        p.shift,
-        size,
-    );
-}
-
-// The lines y up to z. There is a loop for each kind of line, since a test inside would keep it from being vectorised.
-fn edge_lines(buf: &mut [u8], p: BoxPass, y: usize, z: usize, sums: &mut [u16])
-    requires { PassReady p buf.old sums.old × (y ≤ z) × (z ≤ p.count) × Sums p buf.old y sums.old }
-    ensures { Advanced p y z buf.old sums.old buf.new sums.new }
-{
-    for v in y..z {
-        edge_line(buf, p, v, sums);
-    }
-}
-
-fn inner_lines(buf: &mut [u8], p: BoxPass, y: usize, z: usize, sums: &mut [u16])
-    requires pass_ready { PassReady p buf.old sums.old × (y ≤ z) × (z ≤ p.count) × Sums p buf.old y sums.old }
-    requires by_index { (v : ℕ) → y ≤ v → v < z → (p.back < v) × (v + p.ahead < p.count) }
-    ensures { Advanced p y z buf.old sums.old buf.new sums.new }
-{
-    for v in y..z {
-        inner_line(buf, p, v, sums);
-    }
+    slide_line(buf, enters, leaves, to, sums, p.n, p.by, size);
 }
 
 // A box pass along the columns of count lines of n bytes: from the lines at from to those at to. The sums are for its own use.
@@ -85,7 +53,6 @@ pub fn box_pass(
     ensures lined { Lined (λ v i. mean back ahead (column buf.old from n count i) v) to n count buf.old buf.new }
     ensures work_buffer { WorkBuffer sums.old sums.new }
 {
-    let r = reciprocal_of(back + ahead + 1);
     let p = BoxPass {
         from,
         to,
@@ -93,14 +60,20 @@ pub fn box_pass(
         count,
         back,
         ahead,
-        mul: r.mul,
-        shift: r.shift,
+        by: reciprocal_of(back + ahead + 1),
     };
     // a line leaves from y on, and none enters from z on
-    let y = lesser(back + 1, count);
-    let z = greater(y, count - lesser(ahead, count));
+    let y = count.min(back + 1);
+    let z = y.max(count.saturating_sub(ahead));
     start(&buf[..], p, sums);
-    edge_lines(buf, p, 0, y, sums);
-    inner_lines(buf, p, y, z, sums);
-    edge_lines(buf, p, z, count, sums);
+    // a loop for each kind of line, since a test inside would keep it from being vectorised
+    for v in 0..y {
+        edge_line(buf, p, v, sums);
+    }
+    for v in y..z {
+        inner_line(buf, p, v, sums);
+    }
+    for v in z..count {
+        edge_line(buf, p, v, sums);
+    }
 }

@@ -24,10 +24,8 @@ fn copy_row(src: &[u8], i: usize, dst: &mut [u8], j: usize, n: usize)
 {
     if n == 4 {
         copy_pixel(src, i, dst, j);
-        return;
-    }
-    for k in 0..n {
-        dst[j + k] = src[i + k];
+    } else {
+        dst[j..j + n].copy_from_slice(&src[i..i + n]);
     }
 }
 

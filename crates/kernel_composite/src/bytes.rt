@@ -2,19 +2,13 @@
 ghost use Rattle.std.specs.Prelude.{◌≡◌, ◌+◌, ◌*◌, ◌/◌, ◌%◌, ◌≤◌, ◌<◌, length, get_or, set};
 ghost use Rattle.kernel_composite.specs.BytePairs.{Paired};
 
-fn half(x: u8) -> u16
-    ensures { (result ≡ x) × (result < 256) }
-{
-    x as u16
-}
-
 // The two bytes that start at 2·j.
 pub fn pair(s: &[u8], j: usize) -> u16
     requires { 2 * j + 2 ≤ length s.now }
     ensures { Paired (get_or s.now (2 * j) 0) (get_or s.now (2 * j + 1) 0) result }
 {
     let i = 2 * j;
-    half(s[i]) + half(s[i + 1]) * 256
+    (s[i] as u16) + (s[i + 1] as u16) * 256
 }
 
 // Stores the two bytes v at 2·j.

@@ -15,14 +15,6 @@ ghost use Rattle.kernel_composite.specs.Code.{weighted, blended, blended_by, row
 
 use pixel::Operator;
 
-// The product of two bytes.
-fn product(u: u16, f: u16) -> u16
-    requires { (u < 256) × (f < 256) }
-    ensures { (result ≡ u * f) × (result ≤ 65025) }
-{
-    u * f
-}
-
 // (n + 127) ÷ 255: in 16 bits the compiler makes a multiplication and a shift of it.
 fn div255(n: u16) -> u16
     requires { n ≤ 65025 }
@@ -44,7 +36,7 @@ fn scaled(x: u16, f: u16) -> u16
     requires { f < 256 }
     ensures { Paired ((x % 256 * f + 127) / 255) ((x / 256 * f + 127) / 255) result }
 {
-    joined(div255(product(x % 256, f)), div255(product(x / 256, f)))
+    joined(div255(x % 256 * f), div255(x / 256 * f))
 }
 
 // The two bytes x by a factor f, and the two bytes y by a factor g.
@@ -52,8 +44,8 @@ fn mixed(x: u16, f: u16, y: u16, g: u16) -> u16
     requires { (f < 256) × (g < 256) × (weighted (x % 256) f (y % 256) g ≤ 65025) × (weighted (x / 256) f (y / 256) g ≤ 65025) }
     ensures { Paired ((weighted (x % 256) f (y % 256) g + 127) / 255) ((weighted (x / 256) f (y / 256) g + 127) / 255) result }
 {
-    let low = div255(product(x % 256, f) + product(y % 256, g));
-    let high = div255(product(x / 256, f) + product(y / 256, g));
+    let low = div255(x % 256 * f + y % 256 * g);
+    let high = div255(x / 256 * f + y / 256 * g);
     joined(low, high)
 }
 
@@ -134,26 +126,11 @@ pub fn blend_row(op: Operator, a: &[u8], b: &[u8], f: &[u8], g: &[u8], dst: &mut
     ensures { Painted (composited_at op a.now b.now) 0 0 n dst.old dst.new }
 {
     match op {
-        Operator::Over => {
-            lay(a, b, g, dst, n);
-            return;
-        }
-        Operator::In => {
-            scale(a, f, dst, n);
-            return;
-        }
-        Operator::Out => {
-            scale(a, f, dst, n);
-            return;
-        }
-        Operator::Atop => {
-            mix(a, f, b, g, dst, n);
-            return;
-        }
-        Operator::Xor => {
-            mix(a, f, b, g, dst, n);
-            return;
-        }
+        Operator::Over => lay(a, b, g, dst, n),
+        Operator::In => scale(a, f, dst, n),
+        Operator::Out => scale(a, f, dst, n),
+        Operator::Atop => mix(a, f, b, g, dst, n),
+        Operator::Xor => mix(a, f, b, g, dst, n),
     }
 }
 

@@ -1,7 +1,6 @@
 -- Laws that the proofs of the kernels cite.
 pub mod QuotientByNaturals
 pub mod Totals
-pub mod Divisors
 pub mod GatheredTaps
 pub mod PlannedRows
 pub mod QuotientByProduct

@@ -1,37 +1,21 @@
 -- A signed sum, divided and limited, by naturals alone; the bias and the half that rounds go into the sum first. Assumes nothing.
-use Prim.Native.Nat.{ℕ, zero, suc, ◌+◌, ◌-◌, ◌*◌, ◌/◌, ◌≤◌, ◌<◌, min}
-use mathlib.Core.Path.{◌≡◌, refl, ap, sym, ◌∙◌}
+use Prim.Native.Nat.{ℕ, suc, ◌+◌, ◌-◌, ◌*◌, ◌/◌, min}
+use mathlib.Core.Path.{◌≡◌, ap, sym, ◌∙◌}
 use mathlib.Core.Logic.{⊎_elim}
 use native.Mathlib.Nat.{add-mul, mul-zero, mul_comm, div-div-eq-div-mul}
 use native.Mathlib.Omega.{arith}
-use lib.IntN.{ℤ, pos, negsuc, neg_ℤ, sub_ℕ, ◌+ℤ◌, ◌*ℤ◌, *ℤ-negsuc}
-use borrow.Author.Tests.{lt-ltb, le-ltb}
+use lib.IntN.{ℤ, pos, negsuc, neg_ℤ, ◌+ℤ◌, ◌*ℤ◌, *ℤ-negsuc}
 use Rattle.window.proofs.Store.{lt-or-le}
 use Rattle.number.specs.Number.{value}
 use Rattle.number.specs.declared.Fixed.{Fixed}
 use Rattle.pixel.specs.Whole.{nearest_up, limited}
 use Rattle.pixel.specs.Convolve.{quotient}
 use Rattle.pixel.proofs.SignedSums.{Diff, diff-sub, diff-add, diff-mul, diff-by, diff-plus, diff-limited}
+use Rattle.kernel_taps.proofs.SignedQuotients.{diff-neg}
 use Rattle.kernel_convolve.specs.Code.{lift_over, lift_under}
 
-pub diff-negate : {z : ℤ} {a b : ℕ} → Diff z a b → Diff (neg_ℤ z) b a
-diff-negate {z = pos zero} h = record { same = omega (arith, h.same) }
-diff-negate {z = pos (suc n)} h = record { same = omega (arith, h.same) }
-diff-negate {z = negsuc n} h = record { same = omega (arith, h.same) }
-
 diff-mul-below : {x : ℤ} {a b : ℕ} (d : ℕ) → Diff x a b → Diff (x *ℤ negsuc d) (b * suc d) (a * suc d)
-diff-mul-below {x} d h = rw (*ℤ-negsuc x d) (diff-negate (diff-mul (suc d) h))
-
--- there is one such number
-pub diff_is : {z : ℤ} {a b : ℕ} → Diff z a b → z ≡ sub_ℕ a b
-diff_is {z = pos n} {a} {b} h =
-    let l : b ≤ a = omega (arith, h.same) in
-    let e : a - b ≡ n = omega (arith, h.same) in
-    rw (le-ltb a b l, e) refl
-diff_is {z = negsuc n} {a} {b} h =
-    let l : a < b = omega (arith, h.same) in
-    let e : b - suc a ≡ n = omega (arith, h.same) in
-    rw (lt-ltb a b l, e) refl
+diff-mul-below {x} d h = rw (*ℤ-negsuc x d) (diff-neg (diff-mul (suc d) h))
 
 -- ⌊(n + x) / d⌋ is ⌊(n + ⌊x⌋) / d⌋: p and q are what the bias adds and takes away
 lifted : (A B p q d : ℕ)
@@ -72,6 +56,6 @@ quotient-below s bias a d A B h =
     let own = diff-mul-below d (diff-mul a (diff-sub bias.above bias.below)) in
     let less : 65536 * suc d ≡ suc (65536 * d + 65535) = omega arith in
     ap (λ (k : ℕ). limited (nearest_up (pos 65536 *ℤ s +ℤ value bias *ℤ pos a *ℤ negsuc d) (neg_ℤ (pos k)))) less
-    ∙ diff-limited (2 * suc (65536 * d + 65535)) (diff-plus (suc (65536 * d + 65535)) (diff-by 2 (diff-negate (diff-add (diff-by 65536 h) own))))
+    ∙ diff-limited (2 * suc (65536 * d + 65535)) (diff-plus (suc (65536 * d + 65535)) (diff-by 2 (diff-neg (diff-add (diff-by 65536 h) own))))
     ∙ ap (λ (k : ℕ). min ((2 * (65536 * A + bias.above * a * suc d) + k - 2 * (65536 * B + bias.below * a * suc d)) / (2 * k)) 255) (sym less)
     ∙ ap (λ (k : ℕ). min k 255) (lifted A B (bias.above * a) (bias.below * a) (suc d))

@@ -1,10 +1,8 @@
 -- A quotient from a product and a shift: with 2^40 / d, rounded down, it is one too small at most. Assumes nothing.
-use Prim.Native.Nat.{ℕ, ◌+◌, ◌*◌, ◌/◌, ◌≤◌, ◌<◌, min}
+use Prim.Native.Nat.{ℕ, ◌+◌, ◌*◌, ◌/◌, ◌≤◌, ◌<◌}
 use mathlib.Core.Path.{◌≡◌}
-use mathlib.Core.Logic.{⊎_elim}
-use native.Mathlib.Nat.{mul_assoc, mul_comm, mul-add, add-mul, mul-le-mul_left, mul-le-mul_right, le_of_mul-le-mul_right, div-mul-le_self, div-add-mod', mod-lt, div-lt_iff_lt-mul, le-div_iff_mul-le}
+use native.Mathlib.Nat.{mul_assoc, mul_comm, mul-add, add-mul, mul-le-mul_left, mul-le-mul_right, le_of_mul-le-mul_right, div-mul-le_self, div-add-mod', mod-lt}
 use native.Mathlib.Omega.{arith}
-use Rattle.window.proofs.Store.{lt-or-le}
 
 -- parts of the bounds below, each with few numbers in reach
 sum_by : (x q d : ℕ) → (x + 1) * d ≤ 1099511627776 * (q + 1) * d → x * d + d ≤ 1099511627776 * (q * d) + 1099511627776 * d
@@ -54,28 +52,3 @@ module _ (z d m : ℕ) (some : 0 < d) (small : d ≤ 419430400) (is : m ≡ 1099
 
   pub nearly-byte : z * m / 1099511627776 ≤ 255
   nearly-byte = le_of_mul-le-mul_right {k = d} (omega (arith, nearly-low)) some
-
--- the quotient between two multiples
-pub quotient_is : (z d q : ℕ) → 0 < d → q * d ≤ z → z < q * d + d → q ≡ z / d
-quotient_is z d q some low high =
-    let l : q ≤ z / d = (le-div_iff_mul-le some).1 low in
-    let h : z / d < q + 1 = (div-lt_iff_lt-mul some).1 (omega (arith, add-mul q 1 d)) in
-    omega arith
-
--- one more is still a byte
-pub next-byte : (q d z : ℕ) → 0 < d → z ≤ 255 * d → q * d + d ≤ z → q + 1 ≤ 255
-next-byte q d z some few h = le_of_mul-le-mul_right {k = d} (omega (arith, add-mul q 1 d)) some
-
--- limited before it is divided, or after
-pub limited-first : (n d : ℕ) → 0 < d → min n (255 * d) / d ≡ min (n / d) 255
-limited-first n d some = ⊎_elim
-    (λ l.
-    let e : min n (255 * d) ≡ n = omega arith in
-    let h : n / d < 255 = (div-lt_iff_lt-mul some).1 l in
-    rw e (omega arith))
-    (λ l.
-    let e : min n (255 * d) ≡ 255 * d = omega arith in
-    let h : 255 ≤ n / d = (le-div_iff_mul-le some).1 l in
-    let q : 255 ≡ 255 * d / d = quotient_is (255 * d) d 255 some (omega arith) (omega arith) in
-    rw e (omega (arith, q)))
-    (lt-or-le n (255 * d))

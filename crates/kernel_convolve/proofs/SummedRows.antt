@@ -7,7 +7,7 @@ use mathlib.Core.Logic.{⊎_elim}
 use native.Mathlib.Omega.{arith}
 use lib.Dec.{ltb}
 use lib.IntN.{ℤ, pos, negsuc}
-use lib.ListN.{length, get_or}
+use lib.ListN.{get_or}
 use borrow.Author.Tests.{ltb-true, ltb-false, le-ltb}
 use Rattle.window.specs.Store.{Filled}
 use Rattle.window.proofs.Store.{lt-or-le}
@@ -20,7 +20,7 @@ use Rattle.pixel.specs.Convolve.{cells, divisor_of, bias_of, quotient}
 use Rattle.pixel.proofs.SignedSums.{Diff}
 use Rattle.kernel_lines.specs.Lines.{line_bytes}
 use Rattle.kernel_lines.specs.Convolved.{value_at, own_alpha, lane_sum, lane_byte}
-use Rattle.kernel_convolve.specs.declared.sum.Plan.{Plan}
+use Rattle.kernel_convolve.specs.declared.plan.Plan.{Plan}
 use Rattle.kernel_convolve.specs.Code.{tap_sum, Gathered, lift_over, lift_under, planned_lane, planned_pixel}
 use Rattle.kernel_convolve.proofs.QuotientByNaturals.{quotient-above, quotient-below}
 use Rattle.kernel_convolve.proofs.GatheredTaps.{lane-diff}
@@ -58,50 +58,50 @@ distance r ne = ⊎_elim
     (lt-or-le r.below r.above))
     (lt-or-le r.above r.below)
 
-module _ (k : Convolution) (v : List Fixed) (r : Fixed) (p : Plan) (up upAt down downAt lines : List ℕ)
-    (divisor : divisor_of k (value_at v) ≡ value r)
-    (size : p.divisor ≡ r.above - r.below + (r.below - r.above))
-    (bias : bias_of k (value_at v) ≡ value p.bias)
+module _ (k : Convolution) (v : List Fixed) (r : Fixed) (p : Plan) (lines : List ℕ)
+    (divisor : value r ≡ divisor_of k (value_at v))
+    (size : p.divisor.size ≡ r.above - r.below + (r.below - r.above))
+    (bias : value p.bias ≡ bias_of k (value_at v))
     (own : p.own ≡ k.row * line_bytes + 4 * k.column + 3) where
   -- a channel; t: the divisor is below zero
-  lane-is : (t : Bool) → ltb r.above r.below ≡ t → Gathered k v t (cells k) p.above up upAt
-      → Gathered k v (not t) (cells k) p.below down downAt → (f : ℕ → ℕ) (i b : ℕ) → ((o : ℕ) → f o ≡ get_or lines (o + b) 0) → i ≡ 4 * (b / 4)
-      → planned_lane p up upAt down downAt lines i f ≡ lane_byte k v lines b
+  lane-is : (t : Bool) → ltb r.above r.below ≡ t → Gathered k v t (cells k) p.up.now
+      → Gathered k v (not t) (cells k) p.down.now → (f : ℕ → ℕ) (i b : ℕ) → ((o : ℕ) → f o ≡ get_or lines (o + b) 0) → i ≡ 4 * (b / 4)
+      → planned_lane p lines i f ≡ lane_byte k v lines b
   unfolding planned_lane lane_byte
   lane-is true e G H f i b ef ei =
       let d : ℕ = r.below - suc r.above in
       let l : r.above < r.below = ltb-true _ _ e in
-      let A : ℕ = tap_sum p.above up upAt f in
-      let B : ℕ = tap_sum p.below down downAt f in
+      let A : ℕ = tap_sum p.up.now f in
+      let B : ℕ = tap_sum p.down.now f in
       let a : ℕ = get_or lines (p.own + i) 0 in
       let at : k.row * line_bytes + (4 * (b / 4 + k.column) + 3) ≡ p.own + i = omega (arith, own, ei) in
-      let far : suc d ≡ p.divisor = omega (arith, size, l) in
+      let far : suc d ≡ p.divisor.size = omega (arith, size, l) in
       let h : Diff (lane_sum k v lines b) B A = rw (G.adds f, H.adds f) (lane-diff k v lines b f ef) in
       sym
-      (ap₂ (λ (x y : ℤ). quotient (lane_sum k v lines b) x (own_alpha k lines (b / 4)) y) bias
-      (divisor ∙ ap (λ (t : Bool). cond t (negsuc d) (pos (r.above - r.below))) e)
+      (ap₂ (λ (x y : ℤ). quotient (lane_sum k v lines b) x (own_alpha k lines (b / 4)) y) (sym bias)
+      (sym divisor ∙ ap (λ (t : Bool). cond t (negsuc d) (pos (r.above - r.below))) e)
       ∙ ap (λ (x : ℕ). quotient (lane_sum k v lines b) (value p.bias) (get_or lines x 0) (negsuc d)) at
       ∙ quotient-below (lane_sum k v lines b) p.bias a d A B h
       ∙ ap (λ (x : ℕ). min ((A + lift_over p.bias x a - (B + lift_under p.bias x a)) / x) 255) far)
   lane-is false e G H f i b ef ei =
       let d : ℕ = r.above - r.below in
       let l : r.below ≤ r.above = ltb-false _ _ e in
-      let A : ℕ = tap_sum p.above up upAt f in
-      let B : ℕ = tap_sum p.below down downAt f in
+      let A : ℕ = tap_sum p.up.now f in
+      let B : ℕ = tap_sum p.down.now f in
       let a : ℕ = get_or lines (p.own + i) 0 in
       let at : k.row * line_bytes + (4 * (b / 4 + k.column) + 3) ≡ p.own + i = omega (arith, own, ei) in
-      let far : d ≡ p.divisor = omega (arith, size, l) in
+      let far : d ≡ p.divisor.size = omega (arith, size, l) in
       let h : Diff (lane_sum k v lines b) A B = rw (G.adds f, H.adds f) (lane-diff k v lines b f ef) in
       sym
-      (ap₂ (λ (x y : ℤ). quotient (lane_sum k v lines b) x (own_alpha k lines (b / 4)) y) bias
-      (divisor ∙ ap (λ (t : Bool). cond t (negsuc (r.below - suc r.above)) (pos d)) e)
+      (ap₂ (λ (x y : ℤ). quotient (lane_sum k v lines b) x (own_alpha k lines (b / 4)) y) (sym bias)
+      (sym divisor ∙ ap (λ (t : Bool). cond t (negsuc (r.below - suc r.above)) (pos d)) e)
       ∙ ap (λ (x : ℕ). quotient (lane_sum k v lines b) (value p.bias) (get_or lines x 0) (pos d)) at
       ∙ quotient-above (lane_sum k v lines b) p.bias a d A B h
       ∙ ap (λ (x : ℕ). min ((A + lift_over p.bias x a - (B + lift_under p.bias x a)) / x) 255) far)
 
-  pub summed-row : Gathered k v (ltb r.above r.below) (cells k) p.above up upAt
-      → Gathered k v (not (ltb r.above r.below)) (cells k) p.below down downAt
-      → (left count : ℕ) (out out' : List ℕ) → Painted (λ x. planned_pixel p up upAt down downAt lines (4 * (left + x))) 0 0 count out out'
+  pub summed-row : Gathered k v (ltb r.above r.below) (cells k) p.up.now
+      → Gathered k v (not (ltb r.above r.below)) (cells k) p.down.now
+      → (left count : ℕ) (out out' : List ℕ) → Painted (λ x. planned_pixel p lines (4 * (left + x))) 0 0 count out out'
       → Filled (λ b. lane_byte k v lines (4 * left + b)) 0 (4 * count) out out'
   summed-row G H left count out out' P = filled-pixels _ _ count out out' (λ x. (
     lane (λ o. get_or lines (o + 4 * (left + x)) 0) x (4 * x)
@@ -115,14 +115,5 @@ module _ (k : Convolution) (v : List Fixed) (r : Fixed) (p : Plan) (up upAt down
   )) P
     where
       lane : (f : ℕ → ℕ) (x c : ℕ) → ((o : ℕ) → f o ≡ get_or lines (o + (4 * left + c)) 0) → 4 * (left + x) ≡ 4 * ((4 * left + c) / 4)
-          → planned_lane p up upAt down downAt lines (4 * (left + x)) f ≡ lane_byte k v lines (4 * left + c)
+          → planned_lane p lines (4 * (left + x)) f ≡ lane_byte k v lines (4 * left + c)
       lane f x c ef ei = lane-is (ltb r.above r.below) refl G H f (4 * (left + x)) (4 * left + c) ef ei
-
--- a buffer that was left as it was
-pub filled-after : (f : ℕ → ℕ) (n : ℕ) (d d₁ d₂ : List ℕ) → d₁ ≡ d → Filled f 0 n d₁ d₂ → Filled f 0 n d d₂
-filled-after f n d d₁ d₂ e F = record {
-  inside = F.inside;
-  before = λ i l. F.before i l ∙ ap (λ (t : List ℕ). get_or t i 0) e;
-  after = λ i l. F.after i l ∙ ap (λ (t : List ℕ). get_or t i 0) e;
-  long = F.long ∙ ap length e;
-}

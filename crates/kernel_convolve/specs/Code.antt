@@ -1,27 +1,17 @@
 -- What the code's own steps work out. No promise to a caller cites these. Assumes nothing.
-use Rattle.std.specs.Prelude.{ℕ, zero, suc, ◌+◌, ◌-◌, ◌*◌, ◌/◌, ◌%◌, ◌≤◌, ◌<◌, min, ◌≡◌, Bool, cond, List, length, get_or}
+use Rattle.std.specs.Prelude.{ℕ, ◌+◌, ◌-◌, ◌*◌, ◌/◌, ◌%◌, ◌≤◌, min, ◌≡◌, Bool, cond, List, length, get_or}
+use Rattle.window.specs.Window.{fold}
 use Rattle.number.specs.declared.Fixed.{Fixed}
 use Rattle.pixel.specs.declared.Pixel.{Pixel}
 use Rattle.pixel.specs.declared.Convolution.{Convolution}
 use Rattle.pixel.specs.Alpha.{pixel}
-use Rattle.pixel.specs.Coefficient.{Allowed}
 use Rattle.pixel.specs.Convolve.{cells}
 use Rattle.kernel_lines.specs.Lines.{line_bytes}
 use Rattle.kernel_lines.specs.Convolved.{value_at}
 use Rattle.kernel_convolve.specs.declared.taps.Sums.{Sums}
-use Rattle.kernel_convolve.specs.declared.sum.Plan.{Plan}
-
--- f 0 + .. + f (n - 1)
-unfoldable pub total : ℕ → (ℕ → ℕ) → ℕ
-total zero f = 0
-total (suc n) f = total n f + f n
-
--- the kernel's values above zero, and those below it
-pub record Totals (v : List Fixed) (n : ℕ) (r : Fixed) : Type 0 where
-  pub above : r.above ≡ total n (λ i. (value_at v i).above)
-  pub below : r.below ≡ total n (λ i. (value_at v i).below)
-  pub small_above : r.above ≤ n * 16777216
-  pub small_below : r.below ≤ n * 16777216
+use Rattle.kernel_convolve.specs.declared.taps.Tap.{Tap}
+use Rattle.std.specs.List.{sum_by}
+use Rattle.kernel_convolve.specs.declared.plan.Plan.{Plan}
 
 -- what is below zero, or what is above it
 abbrev pub part_of : Bool → Fixed → ℕ
@@ -31,38 +21,29 @@ part_of below v = cond below v.below v.above
 abbrev pub offset_of : ℕ → ℕ → ℕ
 offset_of columns t = t / columns * line_bytes + 4 * (t % columns)
 
--- taps that are small enough, and not too far on
-pub record Taps (n : ℕ) (weights offsets : List ℕ) : Type 0 where
-  pub few : n ≤ 25
-  pub long : length weights ≡ 25
-  pub long_too : length offsets ≡ 25
-  pub small : (t : ℕ) → t < n → get_or weights t 0 ≤ 16777216
-  pub near : (t : ℕ) → t < n → get_or offsets t 0 ≤ 16464
-
--- what n taps add up to, over what stands at each offset
-unfoldable pub tap_sum : ℕ → List ℕ → List ℕ → (ℕ → ℕ) → ℕ
-tap_sum n weights offsets f = total n (λ t. get_or weights t 0 * f (get_or offsets t 0))
+-- what taps add up to, over what stands at each offset
+unfoldable pub tap_sum : List Tap → (ℕ → ℕ) → ℕ
+tap_sum taps f = sum_by (λ (t : Tap). t.weight * f t.offset) taps
 
 -- the weight of tap t: the kernel turned half round
 abbrev pub turned : Convolution → List Fixed → Bool → ℕ → ℕ
 turned k v below t = part_of below (value_at v (cells k - 1 - t))
 
--- the first m taps, without those that have no weight: n of them
-pub record Gathered (k : Convolution) (v : List Fixed) (below : Bool) (m n : ℕ) (weights offsets : List ℕ) : Type 0 where
-  pub taps : Taps n weights offsets
-  pub fewer : n ≤ m
-  pub adds : (f : ℕ → ℕ) → tap_sum n weights offsets f ≡ total m (λ t. turned k v below t * f (offset_of k.columns t))
+-- the first m taps, without those that have no weight
+pub record Gathered (k : Convolution) (v : List Fixed) (below : Bool) (m : ℕ) (taps : List Tap) : Type 0 where
+  pub fewer : length taps ≤ m
+  pub adds : (f : ℕ → ℕ) → tap_sum taps f ≡ fold ◌+◌ 0 m (λ t. turned k v below t * f (offset_of k.columns t))
 
 -- the sums of the four channels of the pixels from the index i on
-pub record Summed (n : ℕ) (weights offsets lines : List ℕ) (i : ℕ) (s : Sums) : Type 0 where
-  pub r : s.r ≡ tap_sum n weights offsets (λ o. get_or lines (o + i) 0)
-  pub g : s.g ≡ tap_sum n weights offsets (λ o. get_or lines (o + i + 1) 0)
-  pub b : s.b ≡ tap_sum n weights offsets (λ o. get_or lines (o + i + 2) 0)
-  pub a : s.a ≡ tap_sum n weights offsets (λ o. get_or lines (o + i + 3) 0)
-  pub small_r : s.r ≤ n * 4278190080
-  pub small_g : s.g ≤ n * 4278190080
-  pub small_b : s.b ≤ n * 4278190080
-  pub small_a : s.a ≤ n * 4278190080
+pub record Summed (taps : List Tap) (lines : List ℕ) (i : ℕ) (s : Sums) : Type 0 where
+  pub r : s.r ≡ tap_sum taps (λ o. get_or lines (o + i) 0)
+  pub g : s.g ≡ tap_sum taps (λ o. get_or lines (o + i + 1) 0)
+  pub b : s.b ≡ tap_sum taps (λ o. get_or lines (o + i + 2) 0)
+  pub a : s.a ≡ tap_sum taps (λ o. get_or lines (o + i + 3) 0)
+  pub small_r : s.r ≤ length taps * 4278190080
+  pub small_g : s.g ≤ length taps * 4278190080
+  pub small_b : s.b ≤ length taps * 4278190080
+  pub small_a : s.a ≤ length taps * 4278190080
 
 -- q is s with one tap more
 pub record Added (s : Sums) (w : ℕ) (lines : List ℕ) (o : ℕ) (q : Sums) : Type 0 where
@@ -89,25 +70,17 @@ lift_over bias d a = d * (bias.above * a + 32768 - bias.below * a) / 65536
 abbrev pub lift_under : Fixed → ℕ → ℕ → ℕ
 lift_under bias d a = (d * (bias.below * a - (bias.above * a + 32768)) + 65535) / 65536
 
--- numbers so small that every sum fits its word, and an own alpha inside the lines
-pub record Planned (p : Plan) : Type 0 where
-  pub bias : Allowed p.bias
-  pub divides : 0 < p.divisor
-  pub small : p.divisor ≤ 419430400
-  pub inverse : p.inverse ≡ 1099511627776 / p.divisor
-  pub near : p.own ≤ 16467
-
 -- from the two sums of a channel, and the own alpha
 abbrev pub planned_byte : Plan → ℕ → ℕ → ℕ → ℕ
-planned_byte p s t a = min ((s + lift_over p.bias p.divisor a - (t + lift_under p.bias p.divisor a)) / p.divisor) 255
+planned_byte p s t a = min ((s + lift_over p.bias p.divisor.size a - (t + lift_under p.bias p.divisor.size a)) / p.divisor.size) 255
 
 abbrev pub divided_pixel : Plan → Sums → Sums → ℕ → Pixel
 divided_pixel p s t a = pixel (planned_byte p s.r t.r a) (planned_byte p s.g t.g a) (planned_byte p s.b t.b a) (planned_byte p s.a t.a a)
 
-module _ (p : Plan) (up upAt down downAt lines : List ℕ) (i : ℕ) where
+module _ (p : Plan) (lines : List ℕ) (i : ℕ) where
   -- the channel whose bytes are given at each offset
   unfoldable pub planned_lane : (ℕ → ℕ) → ℕ
-  planned_lane f = planned_byte p (tap_sum p.above up upAt f) (tap_sum p.below down downAt f) (get_or lines (p.own + i) 0)
+  planned_lane f = planned_byte p (tap_sum p.up.now f) (tap_sum p.down.now f) (get_or lines (p.own + i) 0)
 
   abbrev pub planned_pixel : Pixel
   planned_pixel = pixel (planned_lane (λ o. get_or lines (o + i) 0)) (planned_lane (λ o. get_or lines (o + i + 1) 0))

@@ -21,12 +21,6 @@ fn put_alphas(lines: &[u8], own: usize, d: &mut [u8], n: usize)
     }
 }
 
-fn wide(x: u8) -> u32
-    ensures { (result ≡ x) × (result ≤ 255) }
-{
-    x as u32
-}
-
 // The alpha of each pixel four times.
 fn alpha_row(d: &[u8], f: &mut [u8], n: usize)
     requires { (length d.now ≡ 4 * n) × (4 * n ≤ length f.old) }
@@ -34,14 +28,8 @@ fn alpha_row(d: &[u8], f: &mut [u8], n: usize)
 {
     for x in 0..n {
         let i = 4 * x;
-        pixel::bytes::put(f, i, wide(d[i + 3]) * 16843009);
+        pixel::bytes::put(f, i, u32::from(d[i + 3]) * 16843009);
     }
-}
-
-fn lesser(x: u8, y: u8) -> u8
-    ensures { result ≡ min x y }
-{
-    if x < y { x } else { y }
 }
 
 // Each byte, or that of f where it is less.
@@ -49,8 +37,8 @@ fn lesser_row(f: &[u8], d: &mut [u8])
     requires { length d.old ≤ length f.now }
     ensures { Filled (λ i. min (get_or d.old i 0) (get_or f.now i 0)) 0 (length d.old) d.old d.new }
 {
-    for i in 0..d.len() {
-        d[i] = lesser(d[i], f[i]);
+    for (i, x) in d.iter_mut().enumerate() {
+        *x = (*x).min(f[i]);
     }
 }
 

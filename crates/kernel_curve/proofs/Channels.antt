@@ -2,21 +2,20 @@
 use Prim.Native.Nat.{ℕ, ◌+◌, ◌-◌, ◌*◌, ◌/◌, ◌≤◌, ◌<◌, min}
 use mathlib.Core.Path.{◌≡◌, refl, sym, ◌∙◌, ap₂}
 use mathlib.Core.List.{List}
-use mathlib.Core.Logic.{⊎_elim}
 use native.Mathlib.Nat.{mul_comm, mul-le-mul_right}
 use native.Mathlib.Omega.{arith}
 use lib.IntN.{sub_ℕ}
-use lib.ListN.{length, get_or, get_or-eq_default}
+use lib.ListN.{length, get_or, take, drop}
+use borrow.Rule.Slice.PartMut.{put_mid}
+use Rattle.std.proofs.lemmas.Grind.{common_steps}
 use Rattle.window.specs.Store.{Filled}
-use Rattle.window.proofs.Store.{lt-or-le}
 use Rattle.number.specs.declared.Fixed.{Fixed}
 use Rattle.pixel.specs.declared.Transfer as T
 use Rattle.pixel.specs.declared.Transfer.TheVariants.{Identity, Table, Discrete, Linear}
-use Rattle.pixel.specs.Coefficient.{Allowed}
 use Rattle.pixel.specs.Curve.{table_channel, discrete_channel, linear_channel, transferred}
 use Rattle.pixel.proofs.SignedSums.{diff-sub, diff-add, diff-mul, diff-by, diff-plus, diff-limited}
-use Rattle.kernel_curve.specs.Channel.{value_at, Counted, AllowedValues, channel_map}
-use Rattle.kernel_curve.specs.Code.{Entries, EntriesFrom, byte_of}
+use Rattle.kernel_curve.specs.Channel.{value_at, Counted, channel_map}
+use Rattle.kernel_curve.specs.Code.{EntriesFrom, byte_of}
 
 -- u: what is above zero; d: what is below it
 pub linear-natural : (u1 d1 u2 d2 c : ℕ) → min ((c * u1 + 255 * u2 + 32768 - (c * d1 + 255 * d2)) / 65536) 255 ≡ linear_channel (sub_ℕ u1 d1) (sub_ℕ u2 d2) c
@@ -26,7 +25,7 @@ linear-natural u1 d1 u2 d2 c =
     (sym (diff-limited 65536 (diff-plus 32768 (diff-add (diff-mul c (diff-sub u1 d1)) (diff-by 255 (diff-sub u2 d2))))))
 
 -- the place in a table lies inside it
-pub step-le : (c n : ℕ) → c < 256 → c * n ≤ 255 * n
+step-le : (c n : ℕ) → c < 256 → c * n ≤ 255 * n
 step-le c n l = let h : c ≤ 255 = omega arith in mul-le-mul_right n h
 
 -- two lists of entries that agree where a table looks
@@ -54,24 +53,27 @@ byte-is (Discrete n) v first e c k l E =
     discrete-same (λ (i : ℕ). get_or e i 0) (λ (i : ℕ). (value_at v (first + i)).above) n c k.1 E.same
 byte-is Linear v first e c k l E = let z : first + 0 ≡ first = omega arith in rw z refl
 
--- behind the last value there is 0
-pub allowed_at : (v : List Fixed) (i : ℕ) → length v ≡ 64 → AllowedValues v → Allowed (value_at v i)
-allowed_at v i n A = ⊎_elim
-    (A.each i)
-    (λ h. let g : length v ≤ i = omega arith in rw (get_or-eq_default v (record { above = 0; below = 0 }) g) (record { above = omega arith; below = omega arith }))
-    (lt-or-le i 64)
+-- the elements beside a part that was lent
+front : (at k j : ℕ) (d m : List ℕ) → j < at → at ≤ length d → get_or (put_mid at k d m) j 0 ≡ get_or d j 0
+front at k j d m h l = grind (arith, common_steps)
 
-pub entries-small : (v : List Fixed) (first : ℕ) (e : List ℕ) → length v ≡ 64 → AllowedValues v → EntriesFrom v first e → Entries e
-entries-small v first e n A E = record { long = E.long; small = λ k l. rw (E.same k l) (allowed_at v (first + k) n A).above }
+back : (at k j : ℕ) (d m : List ℕ) → at + k ≤ j → length m ≡ k → at + k ≤ length d → get_or (put_mid at k d m) j 0 ≡ get_or d j 0
+back at k j d m h e l = grind (arith, common_steps)
 
 -- the bytes that were filled are the channel's map
-pub map-filled : (t : T.Transfer) (v : List Fixed) (first : ℕ) (e : List ℕ) (s i : Fixed) (at : ℕ) (d d' : List ℕ) → Counted t → EntriesFrom v first e
-    → s ≡ value_at v first → i ≡ value_at v (first + 1) → Filled (λ (j : ℕ). byte_of t e s i (j - at)) at (at + 256) d d'
-    → Filled (λ (j : ℕ). channel_map t v first (j - at)) at (at + 256) d d'
-map-filled t v first e s i at d d' k E es ei F = record {
+pub map-filled : (t : T.Transfer) (v : List Fixed) (first : ℕ) (e : List ℕ) (s i : Fixed) (at k : ℕ) (d m : List ℕ) → Counted t → EntriesFrom v first e
+    → s ≡ value_at v first → i ≡ value_at v (first + 1) → k ≡ 256 → at + 256 ≤ length d → Filled (byte_of t e s i) 0 256 (take k (drop at d)) m
+    → Filled (λ (j : ℕ). channel_map t v first (j - at)) at (at + 256) d (put_mid at k d m)
+map-filled t v first e s i at k d m c E es ei ek fits F = record {
   inside = λ j lo hi.
-      F.inside j lo hi ∙ ap₂ (λ (x y : Fixed). byte_of t e x y (j - at)) es ei ∙ byte-is t v first e (j - at) k (omega arith) E;
-  before = F.before;
-  after = F.after;
-  long = F.long;
+      lent j lo hi ∙ F.inside (j - at) (omega arith) (omega arith) ∙ ap₂ (λ (x y : Fixed). byte_of t e x y (j - at)) es ei ∙ byte-is t v first e (j - at) c (omega arith) E;
+  before = λ j h. front at k j d m h (omega arith);
+  after = λ j h. back at k j d m (omega arith) long (omega arith);
+  long = grind (arith, common_steps);
 }
+  where
+    long : length m ≡ k
+    long = F.long ∙ grind (arith, common_steps)
+
+    lent : (j : ℕ) → at ≤ j → j < at + 256 → get_or (put_mid at k d m) j 0 ≡ get_or m (j - at) 0
+    lent j lo hi = grind (arith, common_steps)

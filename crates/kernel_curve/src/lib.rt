@@ -12,72 +12,35 @@ ghost use Rattle.kernel_curve.specs.Code.{Entries, EntriesFrom, byte_of};
 use number::Fixed;
 use pixel::Transfer;
 
-// w·v, with its bound.
-fn scaled(w: u64, v: u64) -> u64
-    requires { (w ≤ 255) × (v ≤ 16777216) }
-    ensures { (result ≡ w * v) × (result ≤ 4278190080) }
-{
-    w * v
-}
-
-// c·n, which is at most 255·n.
-fn steps(c: usize, n: usize) -> usize
-    requires { (c < 256) × (n ≤ 16) }
-    ensures { (result ≡ c * n) × (result ≤ 255 * n) }
-{
-    c * n
-}
-
-fn least(x: usize, y: usize) -> usize
-    ensures { result ≡ min x y }
-{
-    if x < y {
-        return x;
-    }
-    y
-}
-
 // From units to a byte: 255 times a value, with the half that rounds it added, divided and limited to 255.
 fn limited(sum: u64) -> u8
     ensures { result ≡ min (sum / 65536) 255 }
 {
-    let v = sum / 65536;
-    if v < 255 {
-        return v as u8;
-    }
-    255
-}
-
-// x - y, and 0 where y is larger.
-fn less(x: u64, y: u64) -> u64
-    ensures { result ≡ x - y }
-{
-    if x < y {
-        return 0;
-    }
-    x - y
+    (sum / 65536).min(255) as u8
 }
 
 // n + 1 entries, linear between them.
+#[tactic(auto, unfolding(pixel::specs::Curve::table_channel))]
 fn table_byte(entries: &[u64], n: usize, c: usize) -> u8
     requires { Entries entries.now × (n < 16) × (c < 256) }
     ensures { result ≡ table_channel n (λ (k : ℕ). get_or entries.now k 0) c }
 {
-    let s = steps(c, n);
+    let s = c * n;
     let k = s / 255;
     let t = (s % 255) as u64;
     let low = entries[k];
     let high = entries[k + 1];
-    limited(scaled(255 - t, low) + scaled(t, high) + 32768)
+    limited((255 - t) * low + t * high + 32768)
 }
 
 // One of n entries.
+#[tactic(auto, unfolding(pixel::specs::Curve::discrete_channel))]
 fn discrete_byte(entries: &[u64], n: usize, c: usize) -> u8
     requires { Entries entries.now × (1 ≤ n) × (n ≤ 16) × (c < 256) }
     ensures { result ≡ discrete_channel n (λ (k : ℕ). get_or entries.now k 0) c }
 {
-    let k = least(steps(c, n) / 255, n - 1);
-    limited(scaled(255, entries[k]) + 32768)
+    let k = (c * n / 255).min(n - 1);
+    limited(255 * entries[k] + 32768)
 }
 
 // What is above zero and what is below it, added apart.
@@ -85,12 +48,13 @@ fn linear_byte(slope: Fixed, intercept: Fixed, c: u64) -> u8
     requires { Allowed slope × Allowed intercept × (c < 256) }
     ensures { result ≡ linear_channel (value slope) (value intercept) c }
 {
-    let above = scaled(c, slope.above) + scaled(255, intercept.above) + 32768;
-    let below = scaled(c, slope.below) + scaled(255, intercept.below);
-    limited(less(above, below))
+    let above = c * slope.above + 255 * intercept.above + 32768;
+    let below = c * slope.below + 255 * intercept.below;
+    limited(above.saturating_sub(below))
 }
 
 // What a transfer makes of the byte c.
+#[tactic(auto, unfolding(crate::specs::Code::byte_of, crate::specs::Channel::Counted))]
 fn transfer_byte(
     transfer: Transfer,
     entries: &[u64],
@@ -113,10 +77,7 @@ fn transfer_byte(
 fn number_at(values: [Fixed; 64], i: usize) -> Fixed
     ensures { result ≡ value_at values i }
 {
-    if i < 64 {
-        return values[i];
-    }
-    Fixed { above: 0, below: 0 }
+    values.get(i).copied().unwrap_or(Fixed::ZERO)
 }
 
 // The values from `first` on that a table can look at, which are not below zero.
@@ -124,26 +85,18 @@ fn fill_entries(values: [Fixed; 64], first: usize, entries: &mut [u64])
     requires { (first ≤ 64) × (length entries.old ≡ 17) }
     ensures { EntriesFrom values first entries.new }
 {
-    for k in 0usize..17 {
-        entries[k] = number_at(values, first + k).above;
+    for (k, entry) in entries.iter_mut().enumerate() {
+        *entry = number_at(values, first + k).above;
     }
 }
 
-// The same for every byte, from `at` on.
-fn fill_bytes(
-    transfer: Transfer,
-    entries: &[u64],
-    slope: Fixed,
-    intercept: Fixed,
-    maps: &mut [u8],
-    at: usize,
-)
-    requires { Counted transfer × Entries entries.now × Allowed slope × Allowed intercept × (at + 256 ≤ length maps.old) }
-    ensures { Filled (λ i. byte_of transfer entries.now slope intercept (i - at)) at (at + 256) maps.old maps.new }
+// The same for every byte.
+fn fill_bytes(transfer: Transfer, entries: &[u64], slope: Fixed, intercept: Fixed, map: &mut [u8])
+    requires { Counted transfer × Entries entries.now × Allowed slope × Allowed intercept × (length map.old ≡ 256) }
+    ensures { Filled (byte_of transfer entries.now slope intercept) 0 256 map.old map.new }
 {
-    let end = at + 256;
-    for i in at..end {
-        maps[i] = transfer_byte(transfer, entries, slope, intercept, i - at);
+    for (c, byte) in map.iter_mut().enumerate() {
+        *byte = transfer_byte(transfer, entries, slope, intercept, c);
     }
 }
 
@@ -156,5 +109,11 @@ pub fn fill_map(transfer: Transfer, values: [Fixed; 64], first: usize, maps: &mu
     fill_entries(values, first, &mut entries);
     let slope = number_at(values, first);
     let intercept = number_at(values, first + 1);
-    fill_bytes(transfer, &entries, slope, intercept, maps, at);
+    fill_bytes(
+        transfer,
+        &entries,
+        slope,
+        intercept,
+        &mut maps[at..at + 256],
+    );
 }

@@ -1,33 +1,38 @@
 -- Two growths at once: each line from four. Assumes nothing.
-use mathlib.Core.Path.{◌≡◌, ap₂}
-use mathlib.Core.List.{List}
-use mathlib.Core.Logic.{inl, inr, ⊎_elim}
-use Prim.Native.Nat.{ℕ, ◌+◌, ◌-◌, ◌*◌, ◌≤◌, ◌<◌}
+use mathlib.Core.Path.{◌≡◌, ap₂, ◌∙◌}
+use mathlib.Core.List.{List, [], ◌∷◌}
+use Prim.Native.Nat.{ℕ, ◌+◌, ◌-◌, ◌*◌, ◌<◌}
 use native.Mathlib.Omega.{arith}
-use lib.ListN.{length}
+use lib.ListN.{get_or}
 use Rattle.window.specs.Store.{Filled, Lined, byte_at}
 use Rattle.window.specs.Ranges.{Apart}
-use Rattle.kernel_fold.specs.Ranges.{Foldable}
-use Rattle.kernel_fold.specs.Operation.{folded_four}
+use Rattle.kernel_fold.specs.Operation.{together}
+use Rattle.kernel_fold.proofs.Semilattices.{Semilattice}
 use Rattle.kernel_fold.specs.Lines.{earlier, later, paired_lines, paired_twice}
 use Rattle.kernel_fold.proofs.Neighbours.{earlier-in, later-in}
 use Rattle.kernel_fold.proofs.LineRuns.{source, lined-run}
 
--- a line at `from` can be read while a line at `to` is stored
-pub line-readable : (from to size n a at : ℕ) (d : List ℕ) → from ≤ a → a + n ≤ from + size → from + size ≤ length d → to ≤ at → at + n ≤ to + size → Apart from size to size → Foldable a at n d
-line-readable from to size n a at d h₁ h₂ h₃ h₄ h₅ apart = (omega arith, ⊎_elim (λ g. inl (omega arith)) (λ g. inr (omega arith)) apart)
+-- the bytes at an index of four ranges, put together in pairs
+abbrev folded_four : (ℕ → ℕ → ℕ) → List ℕ → ℕ → ℕ → ℕ → ℕ → ℕ → ℕ → ℕ
+folded_four op d w x y z to j = op (op (get_or d (w + (j - to)) 0) (get_or d (x + (j - to)) 0)) (op (get_or d (y + (j - to)) 0) (get_or d (z + (j - to)) 0))
 
 -- the four lines by the places where they start
-pub line-twice : (op : ℕ → ℕ → ℕ) (d d' : List ℕ) (from to n count v s t s2 t2 y z k l m o a b c e at : ℕ)
+pub line-twice : (op : ℕ → ℕ → ℕ) (S : Semilattice op) (d d' : List ℕ) (from to n count v s t s2 t2 y z k l m o a b c e at : ℕ)
     → y ≡ earlier s2 v → z ≡ later t2 count v → k ≡ earlier s y → l ≡ later t count y → m ≡ earlier s z → o ≡ later t count z
     → a ≡ from + k * n → b ≡ from + l * n → c ≡ from + m * n → e ≡ from + o * n → at ≡ to + v * n
-    → Filled (folded_four op d a b c e at) at (at + n) d d' → Filled (λ j. paired_twice op d from n count s t s2 t2 v (j - (to + v * n))) (to + v * n) (to + v * n + n) d d'
-line-twice op d d' from to n count v s t s2 t2 y z k l m o a b c e at ey ez ek el em eo ea eb ec ee eat F =
+    → Filled (λ j. together op d a (b ∷ c ∷ e ∷ []) (j - at)) at (at + n) d d' → Filled (λ j. paired_twice op d from n count s t s2 t2 v (j - (to + v * n))) (to + v * n) (to + v * n + n) d d'
+line-twice op S d d' from to n count v s t s2 t2 y z k l m o a b c e at ey ez ek el em eo ea eb ec ee eat F =
     let fa : a ≡ from + earlier s (earlier s2 v) * n = cc in
     let fb : b ≡ from + later t count (earlier s2 v) * n = cc in
     let fc : c ≡ from + earlier s (later t2 count v) * n = cc in
     let fe : e ≡ from + later t count (later t2 count v) * n = cc in
-    rw (fa, fb, fc, fe, eat) at F
+    let G : Filled (folded_four op d a b c e at) at (at + n) d d' = record {
+      inside = λ j lo hi. F.inside j lo hi ∙ S.assoc _ _ _;
+      before = F.before;
+      after = F.after;
+      long = F.long;
+    } in
+    rw (fa, fb, fc, fe, eat) at G
 
 -- one line more
 module _ (op : ℕ → ℕ → ℕ) (from to n count s t s2 t2 v : ℕ) (d d₁ d₂ : List ℕ) (apart : Apart from (count * n) to (count * n)) (among : v < count)

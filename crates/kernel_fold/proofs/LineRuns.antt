@@ -8,11 +8,17 @@ use native.Mathlib.Omega.{arith}
 use lib.ListN.{get_or}
 use Rattle.window.specs.Store.{Filled, Lined, byte_at}
 use Rattle.window.proofs.Store.{lt-or-le, lined-outside}
-use Rattle.kernel_fold.specs.Operation.{folded_shifted, folded_three}
 use Rattle.window.specs.Ranges.{Apart}
 use Rattle.kernel_fold.specs.Lines.{earlier, later, paired_lines, around_line}
 use Rattle.kernel_fold.proofs.Neighbours.{earlier-is, later-is}
 use Rattle.kernel_fold.proofs.Semilattices.{Semilattice, twice, again-first}
+
+-- bytes at an index of one range, put together, by the index of the range that is stored
+abbrev pub folded_shifted : (ℕ → ℕ → ℕ) → List ℕ → ℕ → ℕ → ℕ → ℕ → ℕ
+folded_shifted op d from shift to j = op (get_or d (from + (j - to)) 0) (get_or d (from + shift + (j - to)) 0)
+
+abbrev pub folded_three : (ℕ → ℕ → ℕ) → List ℕ → ℕ → ℕ → ℕ → ℕ → ℕ → ℕ
+folded_three op d w x y to j = op (op (get_or d (w + (j - to)) 0) (get_or d (x + (j - to)) 0)) (get_or d (y + (j - to)) 0)
 
 -- a byte of a line lies among the bytes of the lines
 pub line-in : (n count v i : ℕ) → v < count → i < n → v * n + i < count * n

@@ -1,7 +1,9 @@
 -- Lines put together with those before and after them. Only the code needs these definitions: no promise to a caller cites them. Assumes nothing.
-use Rattle.std.specs.Prelude.{List, ℕ, ◌+◌, ◌-◌, ◌*◌, cond, ltb}
+use Rattle.std.specs.Prelude.{List, ℕ, ◌+◌, ◌-◌, cond, ltb}
 use Rattle.window.specs.Store.{byte_at}
 use Rattle.kernel_fold.specs.declared.Extreme.{Extreme}
+use Rattle.kernel_fold.specs.declared.between.Between.{Between}
+use Rattle.kernel_fold.specs.declared.between.Reach.{Reach}
 use Rattle.kernel_fold.specs.Operation.{operation}
 
 -- the line s before v, or v itself where there is none
@@ -24,6 +26,10 @@ around_line op d from n count s t v i = op (paired_lines op d from n count s t v
 abbrev pub paired_twice : (ℕ → ℕ → ℕ) → List ℕ → ℕ → ℕ → ℕ → ℕ → ℕ → ℕ → ℕ → ℕ → ℕ → ℕ
 paired_twice op d from n count s t s2 t2 v i = op (paired_lines op d from n count s t (earlier s2 v) i) (paired_lines op d from n count s t (later t2 count v) i)
 
--- the same for the index j = to + v·n + i
-abbrev pub twice_at : Extreme → List ℕ → ℕ → ℕ → ℕ → ℕ → ℕ → ℕ → ℕ → ℕ → ℕ → ℕ → ℕ
-twice_at op d from to n count s t s2 t2 v j = paired_twice (operation op) d from n count s t s2 t2 v (j - (to + v * n))
+-- that of the lines of b, by one and then by two
+abbrev pub twice_between : Extreme → List ℕ → Between → Reach → Reach → ℕ → ℕ → ℕ
+twice_between op d b one two = paired_twice (operation op) d b.from b.n b.count one.back one.ahead two.back two.ahead
+
+-- the same for the index j = at + i, where line v is stored
+abbrev pub twice_at : Extreme → List ℕ → Between → Reach → Reach → ℕ → ℕ → ℕ → ℕ
+twice_at op d b one two v at j = twice_between op d b one two v (j - at)

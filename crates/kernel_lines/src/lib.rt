@@ -1,6 +1,8 @@
 // Rows of a picture extended beyond its edges: what a convolution reads. A buffer of lines holds one row for each of the kernel's.
 #![tactic(auto)]
 
+mod kernel; // a convolution with its values, and its divisor and bias
+
 ghost use Rattle.std.specs.Prelude.{◌≡◌, cond, ◌+◌, ◌-◌, ◌*◌, ◌≤◌, ◌<◌, leb, length};
 ghost use Rattle.window.specs.Limits.{longest_side};
 ghost use Rattle.pixel.specs.Alpha.{clear};
@@ -9,9 +11,9 @@ ghost use Rattle.pixel.specs.Convolve.{extended};
 ghost use Rattle.pixel.specs.Word.{Packed};
 ghost use Rattle.kernel_lines.specs.Lines.{line_bytes, all_lines, place_of, pixel_in};
 
+pub use kernel::Kernel;
 use kernel_row::row::{clear_pixels, copy_pixels};
 use pixel::{Edge, bytes};
-use window::{less, lesser};
 
 // The pixels of a line, its bytes, and those of all lines.
 const PLACES: usize = window::SIDE + 4;
@@ -20,22 +22,15 @@ pub const LINE: usize = 4 * PLACES;
 
 pub const LINES: usize = 5 * LINE;
 
-// The place i − t, or n where there is none.
-fn behind(n: usize, t: usize, i: usize) -> usize
-    ensures { result ≡ cond (leb t i) (i - t) n }
-{
-    if t <= i { i - t } else { n }
-}
-
 // The place i − t of a line of n places, by the edge mode.
 pub fn place_of(edge: Edge, n: usize, t: usize, i: usize) -> usize
     requires { (0 < n) × (n ≤ longest_side) × (t ≤ 5) × (i ≤ longest_side + 5) }
     ensures { result ≡ place_of edge n t i }
 {
     match edge {
-        Edge::Duplicate => lesser(less(i, t), n - 1),
+        Edge::Duplicate => i.saturating_sub(t).min(n - 1),
         Edge::Wrap => (i + t * (n - 1)) % n,
-        Edge::None => behind(n, t, i),
+        Edge::None => i.checked_sub(t).unwrap_or(n),
     }
 }
 

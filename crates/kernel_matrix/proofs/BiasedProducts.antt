@@ -5,7 +5,6 @@ use mathlib.Core.List.{List}
 use Prim.Native.Nat.{ℕ, ◌+◌, ◌-◌, ◌*◌, ◌/◌, ◌%◌, ◌≤◌, ◌<◌, min}
 use native.Mathlib.Nat.{mul-le-mul, add-mul-mod_self_right, mod-eq_of_lt}
 use native.Mathlib.Omega.{arith}
-use borrow.Author.Tests.{lt-ltb, le-ltb}
 use lib.Dec.{eqb}
 use lib.ListN.{length, get_or}
 use Rattle.window.specs.Store.{Filled}
@@ -62,22 +61,17 @@ matrix-table-of m d d' long F = record {
   long = F.long ∙ long;
   red = λ x c lx lc.
       let z : 4 * x + 0 * 1024 + c ≡ 4 * x + c = omega arith in
-      let h : 4 * x + c < 1024 = omega arith in
-      F.inside (4 * x + c) (omega arith) (omega arith) ∙ simp (lt-ltb _ _ h, rw z at (row_at x c 0 lc), rw z at (byte_at x c 0 lx lc));
+      let k : (4 * x + c) / 1024 ≡ 0 = omega arith in
+      F.inside (4 * x + c) (omega arith) (omega arith) ∙ simp (k, rw z at (row_at x c 0 lc), rw z at (byte_at x c 0 lx lc));
   green = λ x c lx lc.
-      let l : 1024 ≤ 4 * x + 1024 + c = omega arith in
-      let h : 4 * x + 1024 + c < 2048 = omega arith in
-      F.inside (4 * x + 1024 + c) (omega arith) (omega arith) ∙ simp (le-ltb _ _ l, lt-ltb _ _ h, row_at x c 1 lc, byte_at x c 1 lx lc);
+      let k : (4 * x + 1024 + c) / 1024 ≡ 1 = omega arith in
+      F.inside (4 * x + 1024 + c) (omega arith) (omega arith) ∙ simp (k, row_at x c 1 lc, byte_at x c 1 lx lc);
   blue = λ x c lx lc.
-      let l : 1024 ≤ 4 * x + 2048 + c = omega arith in
-      let k : 2048 ≤ 4 * x + 2048 + c = omega arith in
-      let h : 4 * x + 2048 + c < 3072 = omega arith in
-      F.inside (4 * x + 2048 + c) (omega arith) (omega arith) ∙ simp (le-ltb _ _ l, le-ltb _ _ k, lt-ltb _ _ h, row_at x c 2 lc, byte_at x c 2 lx lc);
+      let k : (4 * x + 2048 + c) / 1024 ≡ 2 = omega arith in
+      F.inside (4 * x + 2048 + c) (omega arith) (omega arith) ∙ simp (k, row_at x c 2 lc, byte_at x c 2 lx lc);
   alpha = λ x c lx lc.
-      let l : 1024 ≤ 4 * x + 3072 + c = omega arith in
-      let k : 2048 ≤ 4 * x + 3072 + c = omega arith in
-      let h : 3072 ≤ 4 * x + 3072 + c = omega arith in
-      F.inside (4 * x + 3072 + c) (omega arith) (omega arith) ∙ simp (le-ltb _ _ l, le-ltb _ _ k, le-ltb _ _ h, row_at x c 3 lc, byte_at x c 3 lx lc);
+      let k : (4 * x + 3072 + c) / 1024 ≡ 3 = omega arith in
+      F.inside (4 * x + 3072 + c) (omega arith) (omega arith) ∙ simp (k, row_at x c 3 lc, byte_at x c 3 lx lc);
 }
 
 allowed_at : (m : Matrix) (c : ℕ) → AllowedMatrix m → AllowedRow (matrix_row_at m c)
@@ -91,16 +85,16 @@ allowed_at m c s = go (eqb c 0) (eqb c 1) (eqb c 2)
 
 -- the sum of a pixel's four entries in row c
 module _ (m : Matrix) (t : List ℕ) (c r g b a : ℕ) (M : MatrixTable m t) (s : AllowedMatrix m) (lc : c < 4) (lr : r < 256) (lg : g < 256) (lb : b < 256) (la : a < 256) where
-  pub red-le : get_or t (4 * r + c) 0 ≤ 8556380160
+  red-le : get_or t (4 * r + c) 0 ≤ 8556380160
   red-le = rw (M.red r c lr lc) (biased-le _ r (allowed_at m c s).r lr)
 
-  pub green-le : get_or t (4 * g + 1024 + c) 0 ≤ 8556380160
+  green-le : get_or t (4 * g + 1024 + c) 0 ≤ 8556380160
   green-le = rw (M.green g c lg lc) (biased-le _ g (allowed_at m c s).g lg)
 
-  pub blue-le : get_or t (4 * b + 2048 + c) 0 ≤ 8556380160
+  blue-le : get_or t (4 * b + 2048 + c) 0 ≤ 8556380160
   blue-le = rw (M.blue b c lb lc) (biased-le _ b (allowed_at m c s).b lb)
 
-  pub alpha-le : get_or t (4 * a + 3072 + c) 0 ≤ 17112793088
+  alpha-le : get_or t (4 * a + 3072 + c) 0 ≤ 17112793088
   alpha-le =
       let x = biased-le (matrix_row_at m c).a a (allowed_at m c s).a la in
       let y = biased-le (matrix_row_at m c).one 255 (allowed_at m c s).one (omega arith) in
@@ -108,6 +102,10 @@ module _ (m : Matrix) (t : List ℕ) (c r g b a : ℕ) (M : MatrixTable m t) (s 
     where
       sum-le : (x y : ℕ) → x ≤ 8556380160 → y ≤ 8556380160 → x + y + 32768 ≤ 17112793088
       sum-le x y h k = omega arith
+
+  pub entries-le : (get_or t (4 * r + c) 0 ≤ 8556380160) × (get_or t (4 * g + 1024 + c) 0 ≤ 8556380160) × (get_or t (4 * b + 2048 + c) 0 ≤ 8556380160)
+      × (get_or t (4 * a + 3072 + c) 0 ≤ 17112793088)
+  entries-le = (red-le, green-le, blue-le, alpha-le)
 
   pub sum-law : min ((get_or t (4 * r + c) 0 + get_or t (4 * g + 1024 + c) 0 + get_or t (4 * b + 2048 + c) 0 + get_or t (4 * a + 3072 + c) 0 - 21390950400) / 65536) 255
       ≡ matrix_channel (value (matrix_row_at m c).r) (value (matrix_row_at m c).g) (value (matrix_row_at m c).b) (value (matrix_row_at m c).a) (value (matrix_row_at m c).one) r g b a

@@ -1,4 +1,3 @@
 -- Laws that the proofs of the kernel cite.
-pub mod SignedLimit
 pub mod BiasedProducts
 pub mod MatrixRows

@@ -1,5 +1,5 @@
 -- What the code's own steps work out. No promise to a caller cites these. Assumes nothing.
-use Rattle.std.specs.Prelude.{ℕ, ◌+◌, ◌/◌, ◌%◌, cond, ltb}
+use Rattle.std.specs.Prelude.{ℕ, ◌+◌, ◌/◌, ◌%◌, cond, eqb}
 use Rattle.number.specs.Number.{value}
 use Rattle.pixel.specs.declared.Pixel.{Pixel}
 use Rattle.pixel.specs.declared.MatrixRow.{MatrixRow}
@@ -11,9 +11,9 @@ use Rattle.kernel_matrix.specs.Tables.{matrix_row_at, biased}
 -- the entries of a matrix's table, one after another
 abbrev pub product : Matrix → ℕ → ℕ
 product m i =
-    cond (ltb i 1024) (biased (matrix_row_at m (i % 4)).r (i / 4 % 256))
-    (cond (ltb i 2048) (biased (matrix_row_at m (i % 4)).g (i / 4 % 256))
-    (cond (ltb i 3072) (biased (matrix_row_at m (i % 4)).b (i / 4 % 256))
+    cond (eqb (i / 1024) 0) (biased (matrix_row_at m (i % 4)).r (i / 4 % 256))
+    (cond (eqb (i / 1024) 1) (biased (matrix_row_at m (i % 4)).g (i / 4 % 256))
+    (cond (eqb (i / 1024) 2) (biased (matrix_row_at m (i % 4)).b (i / 4 % 256))
     (biased (matrix_row_at m (i % 4)).a (i / 4 % 256) + biased (matrix_row_at m (i % 4)).one 255 + 32768)))
 
 -- a row of the matrix on unpremultiplied channels

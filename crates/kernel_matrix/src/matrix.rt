@@ -29,16 +29,12 @@ fn matrix_row_at(m: Matrix, c: usize) -> MatrixRow
     requires { AllowedMatrix m }
     ensures { (result ≡ matrix_row_at m c) × AllowedRow result }
 {
-    if c == 0 {
-        return m.r;
+    match c {
+        0 => m.r,
+        1 => m.g,
+        2 => m.b,
+        _ => m.a,
     }
-    if c == 1 {
-        return m.g;
-    }
-    if c == 2 {
-        return m.b;
-    }
-    m.a
 }
 
 // The products of R, then of G, of B and of A; four rows beside each other.
@@ -48,16 +44,12 @@ fn entry(m: Matrix, i: usize) -> u64
 {
     let row = matrix_row_at(m, i % 4);
     let x = (i / 4 % 256) as u64;
-    if i < 1024 {
-        return scaled(row.r, x);
+    match i / 1024 {
+        0 => scaled(row.r, x),
+        1 => scaled(row.g, x),
+        2 => scaled(row.b, x),
+        _ => scaled(row.a, x) + scaled(row.one, 255) + 32768,
     }
-    if i < 2048 {
-        return scaled(row.g, x);
-    }
-    if i < 3072 {
-        return scaled(row.b, x);
-    }
-    scaled(row.a, x) + scaled(row.one, 255) + 32768
 }
 
 // The table of a step, from its matrix.
@@ -65,22 +57,9 @@ pub fn prepare(m: Matrix, table: &mut [u64])
     requires { (length table.old ≡ 4096) × AllowedMatrix m }
     ensures { MatrixTable m table.new }
 {
-    for i in 0usize..4096 {
-        table[i] = entry(m, i);
+    for (i, product) in table.iter_mut().enumerate() {
+        *product = entry(m, i);
     }
-}
-
-// Limited to 0..255.
-fn limit(v: i32) -> i32
-    ensures { result ≡ pos (Whole.limited v) }
-{
-    if v < 0 {
-        return 0;
-    }
-    if 255 < v {
-        return 255;
-    }
-    v
 }
 
 // A sum of five biased products, divided by 65,536 and limited. Signed, since the machine limits signed numbers in one step.
@@ -88,7 +67,7 @@ fn limited(sum: u64) -> u8
     requires { sum < 42949672960 }
     ensures { result ≡ min ((sum - 21390950400) / 65536) 255 }
 {
-    limit((((sum as i64) - 21390950400) >> 16) as i32) as u8
+    ((((sum as i64) - 21390950400) >> 16) as i32).clamp(0, 255) as u8
 }
 
 // The new channel c of a pixel whose colours are unpremultiplied.

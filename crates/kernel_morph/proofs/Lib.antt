@@ -3,5 +3,5 @@ pub mod OverlappingFolds
 pub mod CutWindows
 pub mod WindowEdges
 pub mod WidenedWindows
-pub mod GrowthLimits
 pub mod PingPongGrowth
+pub mod Zeros

@@ -6,8 +6,9 @@ use Prim.Native.Nat.{ℕ, ◌+◌, ◌-◌, ◌*◌, ◌≤◌, ◌<◌, min}
 use native.Mathlib.Nat.{mul-le-mul_right}
 use native.Mathlib.Omega.{arith}
 use borrow.Author.Tests.{lt-ltb, le-ltb, le-leb, lt-leb}
-use lib.ListN.{length, get_or}
-use Rattle.window.specs.Ranges.{Apart}
+use lib.ListN.{get_or}
+use Rattle.kernel_fold.specs.declared.between.Between.{Between}
+use Rattle.kernel_fold.specs.declared.between.Reach.{Reach}
 use Rattle.window.specs.Store.{Filled, Lined, byte_at}
 use Rattle.window.specs.Window.{column}
 use Rattle.window.proofs.Store.{lt-or-le, lined-outside}
@@ -17,7 +18,7 @@ use Rattle.kernel_fold.specs.Operation.{operation}
 use Rattle.kernel_fold.proofs.LineRuns.{line-in}
 use Rattle.kernel_morph.specs.Extremes.{neutral, extreme}
 use Rattle.kernel_morph.specs.PingPong.{PingPong}
-use Rattle.kernel_morph.specs.Growth.{windows, edged, edged_line, Widened}
+use Rattle.kernel_morph.specs.Growth.{windows, edged, edged_line, Widened, Towards}
 use Rattle.kernel_morph.proofs.CutWindows.{cut-one, cut-limit}
 use Rattle.kernel_morph.proofs.WindowEdges.{start-byte, extreme-cut}
 
@@ -30,16 +31,6 @@ pingpong-start op a b n count d bytes = record {
   long = refl;
 }
 
--- while windows grow, those at `here` reach p and q, and `there` is scratch
-pub record Standing (op : Extreme) (a b n count back ahead here there p q : ℕ) (d d' : List ℕ) : Type 0 where
-  pub lines : PingPong (windows op d a n count p q) here there n count here d d'
-  pub place : ((here ≡ a) × (there ≡ b)) ⊎ ((here ≡ b) × (there ≡ a))
-  pub low : p ≤ back
-  pub high : q ≤ ahead
-  pub room-here : here + count * n ≤ length d
-  pub room-there : there + count * n ≤ length d
-  pub apart : Apart here (count * n) there (count * n)
-
 -- longer windows, at the other place
 pub pingpong-widen : (op : Extreme) (a n count p q p' q' here there : ℕ) (d d₁ d₂ : List ℕ) → PingPong (windows op d a n count p q) here there n count here d d₁
     → Widened op p q p' q' here there n count d₁ d₂ → PingPong (windows op d a n count p' q') there here n count there d d₂
@@ -48,6 +39,28 @@ pingpong-widen op a n count p q p' q' here there d d₁ d₂ P W = record {
   inside = W.holds (λ w i. byte_at d a n w i) P.inside;
   outside = λ j k m. W.off j k ∙ P.outside j m k;
   long = W.long ∙ P.long;
+}
+
+-- while windows grow between the two places of b towards `whole`: those at the first place of w reach to `now`, its second is scratch
+pub record Standing (op : Extreme) (b : Between) (whole : Reach) (w : Between) (now : Reach) (d d' : List ℕ) : Type 0 where
+  pub lines : PingPong (windows op d b.from b.n b.count now.back now.ahead) w.from w.to b.n b.count w.from d d'
+  pub place : ((w.from ≡ b.from) × (w.to ≡ b.to)) ⊎ ((w.from ≡ b.to) × (w.to ≡ b.from))
+  pub n_is : w.n ≡ b.n
+  pub count_is : w.count ≡ b.count
+  pub low : now.back ≤ whole.back
+  pub high : now.ahead ≤ whole.ahead
+
+-- longer windows, and the way back
+pub standing-next : (op : Extreme) (b : Between) (whole : Reach) (w w' : Between) (now next : Reach) (d d₁ d₂ : List ℕ) → Standing op b whole w now d d₁
+    → Widened op now.back now.ahead next.back next.ahead w.from w.to w.n w.count d₁ d₂ → Towards now.back now.ahead whole.back whole.ahead next.back next.ahead
+    → w'.from ≡ w.to → w'.to ≡ w.from → w'.n ≡ w.n → w'.count ≡ w.count → Standing op b whole w' next d d₂
+standing-next op b whole w w' now next d d₁ d₂ S W T e₁ e₂ e₃ e₄ = record {
+  lines = rw (e₁, e₂) (pingpong-widen op b.from b.n b.count now.back now.ahead next.back next.ahead w.from w.to d d₁ d₂ S.lines (rw (S.n_is, S.count_is) at W));
+  place = ⊎_elim (λ (e : (w.from ≡ b.from) × (w.to ≡ b.to)). inr (e₁ ∙ e.1, e₂ ∙ e.0)) (λ (e : (w.from ≡ b.to) × (w.to ≡ b.from)). inl (e₁ ∙ e.1, e₂ ∙ e.0)) S.place;
+  n_is = e₃ ∙ S.n_is;
+  count_is = e₄ ∙ S.count_is;
+  low = T.low;
+  high = T.high;
 }
 
 -- the two places under their own names

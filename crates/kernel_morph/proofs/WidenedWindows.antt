@@ -11,7 +11,7 @@ use Rattle.kernel_fold.specs.Lines.{earlier, later, paired_lines, around_line, p
 use Rattle.kernel_fold.proofs.Semilattices.{lattice}
 use Rattle.kernel_fold.proofs.Neighbours.{earlier-in, later-in}
 use Rattle.kernel_morph.specs.Extremes.{neutral}
-use Rattle.kernel_morph.specs.Growth.{cut, HoldsWindows, Widened, Towards, Sides, Stretch}
+use Rattle.kernel_morph.specs.Growth.{cut, HoldsWindows, Widened, Sides, Stretch}
 use Rattle.kernel_morph.proofs.CutWindows.{cut-grow, cut_around}
 
 -- two windows that reach p and q make one that reaches p' and q'
@@ -69,10 +69,3 @@ widened-around op p q back ahead p₁ q₁ from to n count d d' S L =
       off = λ j o. lined-outside _ _ _ _ _ _ j L o;
       long = L.long;
     }
-
-pub towards-twice : (p q back ahead p₁ q₁ p₂ q₂ : ℕ) → Stretch p q back ahead p₁ q₁ → Stretch p₁ q₁ back ahead p₂ q₂ → Towards p q back ahead p₂ q₂
-towards-twice p q back ahead p₁ q₁ p₂ q₂ S T = record {
-  low = T.sides.towards.low;
-  high = T.sides.towards.high;
-  more = λ go. let m = S.sides.towards.more go in omega (arith, m, T.sides.from_back, T.sides.from_ahead);
-}

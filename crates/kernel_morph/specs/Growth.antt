@@ -4,6 +4,7 @@ use Rattle.window.specs.Window.{fold}
 use Rattle.window.specs.Store.{byte_at}
 use Rattle.kernel_fold.specs.declared.Extreme.{Extreme}
 use Rattle.kernel_fold.specs.declared.Extreme.TheVariants.{Least, Largest}
+use Rattle.kernel_fold.specs.declared.between.Reach.{Reach}
 use Rattle.kernel_fold.specs.Operation.{operation}
 use Rattle.kernel_morph.specs.Extremes.{neutral}
 use Rattle.window.specs.Ranges.{Outside}
@@ -35,6 +36,10 @@ pub record Widened (op : Extreme) (p q p' q' from to n count : ℕ) (d d' : List
   pub holds : (f : ℕ → ℕ → ℕ) → HoldsWindows op f p q from n count d → HoldsWindows op f p' q' to n count d'
   pub off : (j : ℕ) → Outside to (count * n) j → get_or d' j 0 ≡ get_or d j 0
   pub long : length d' ≡ length d
+
+-- windows that reach to `now` are on the way to `whole`
+abbrev pub Growing : Reach → Reach → Type 0
+Growing now whole = (now.back ≤ whole.back) × (now.ahead ≤ whole.ahead) × (whole.back ≤ 64) × (whole.ahead ≤ 64)
 
 -- a reach of p' and q' on the way from p and q to back and ahead
 pub record Towards (p q back ahead p' q' : ℕ) : Type 0 where

@@ -8,6 +8,7 @@ ghost use Rattle.kernel_morph.specs.Extremes.{extreme_at};
 ghost use Rattle.kernel_morph.specs.PingPong.{Windowed, PingPong};
 
 use kernel_fold::Extreme;
+use kernel_fold::between::{Between, Reach};
 
 // Of each of the count lines of n bytes at a, the extreme over the lines from `back` before it to `ahead` after it, byte by byte, where a line
 // outside of them reads 0. The answer is where these lines are, a or b; the other of the two is scratch.
@@ -25,16 +26,17 @@ pub fn extreme_lines(
     ensures { PingPong (extreme_at op back ahead buf.old a n count) a b n count result buf.old buf.new }
 {
     let last = count - 1;
-    let here = growth::grow_windows(
-        op,
-        buf,
-        a,
-        b,
+    let lines = Between {
+        from: a,
+        to: b,
         n,
         count,
-        window::lesser(back, last),
-        window::lesser(ahead, last),
-    );
-    edge::finish_edges(op, buf, here, n, count, back, ahead);
+    };
+    let whole = Reach {
+        back: back.min(last),
+        ahead: ahead.min(last),
+    };
+    let here = growth::grow_windows(op, buf, lines, whole);
+    edge::finish_edges(op, buf, here, n, count, Reach { back, ahead });
     here
 }

@@ -6,7 +6,8 @@ use mathlib.Core.Logic.{⊎_elim}
 use Prim.Native.Nat.{ℕ, ◌+◌, ◌-◌, ◌*◌, ◌≤◌, ◌<◌}
 use native.Mathlib.Omega.{arith}
 use lib.Dec.{eqb}
-use lib.ListN.{length, get_or}
+use lib.ListN.{length, get_or, take}
+use Rattle.std.proofs.Common.{get_or-take}
 use Rattle.window.specs.Store.{Filled}
 use Rattle.window.proofs.Store.{lt-or-le}
 use Rattle.pixel.specs.declared.Pixel.{Pixel}
@@ -25,26 +26,30 @@ use Rattle.kernel_remap.proofs.TableLines.{line_other}
 pub packed-as : (p q : Pixel) (v : ℕ) → p ≡ q → Packed p v → Packed q v
 packed-as p q v e h = rw e at h
 
-module _ (maps line : List ℕ) (a : ℕ) (la : a < 256) where
-  -- an entry of the line of table k, which starts at o and is made by the map at m
-  line-in : (k m o c : ℕ) (d d' : List ℕ) → o ≡ 65536 * k + 256 * a → m ≡ 256 * k → c ≤ a
-      → Filled (line_entry maps m line o (get_or maps (768 + a) 0)) o (o + (a + 1)) d d'
-      → get_or d' (65536 * k + 256 * a + c) 0 ≡ table_entry maps k (get_or line c 0) a
-  line-in k m o c d d' eo em l F =
-      let at : o + c - o ≡ c = omega arith in
-      rw (← eo, ← em) (F.inside (o + c) (omega arith) (omega arith) ∙ rw at refl)
+-- the map of channel k
+abbrev MapOf : List ℕ → ℕ → List ℕ → Type 0
+MapOf maps k map = (u : ℕ) → u < 256 → get_or map u 0 ≡ get_or maps (256 * k + u) 0
 
-  pub lines-filled : (d d1 d2 d3 : List ℕ)
-      → Filled (line_entry maps 0 line (256 * a) (get_or maps (768 + a) 0)) (256 * a) (256 * a + (a + 1)) d d1
-      → Filled (line_entry maps 256 line (65536 + 256 * a) (get_or maps (768 + a) 0)) (65536 + 256 * a) (65536 + 256 * a + (a + 1)) d1 d2
-      → Filled (line_entry maps 512 line (131072 + 256 * a) (get_or maps (768 + a) 0)) (131072 + 256 * a) (131072 + 256 * a + (a + 1)) d2 d3
+module _ (maps line : List ℕ) (a : ℕ) (la : a < 256) (bytes : (i : ℕ) → get_or line i 0 < 256) where
+  -- an entry of the line of table k, which starts at o and is made by its map
+  line-in : (map : List ℕ) (k o c : ℕ) (d d' : List ℕ) → MapOf maps k map → o ≡ 65536 * k + 256 * a → c ≤ a
+      → Filled (λ i. line_entry map line (get_or maps (768 + a) 0) (i - o)) o (o + (a + 1)) d d'
+      → get_or d' (65536 * k + 256 * a + c) 0 ≡ table_entry maps k (get_or line c 0) a
+  line-in map k o c d d' em eo l F =
+      let at : o + c - o ≡ c = omega arith in
+      rw (← eo) (F.inside (o + c) (omega arith) (omega arith) ∙ rw (at, em _ (bytes c)) refl)
+
+  pub lines-filled : (red green blue d d1 d2 d3 : List ℕ) → MapOf maps 0 red → MapOf maps 1 green → MapOf maps 2 blue
+      → Filled (λ i. line_entry red line (get_or maps (768 + a) 0) (i - 256 * a)) (256 * a) (256 * a + (a + 1)) d d1
+      → Filled (λ i. line_entry green line (get_or maps (768 + a) 0) (i - (65536 + 256 * a))) (65536 + 256 * a) (65536 + 256 * a + (a + 1)) d1 d2
+      → Filled (λ i. line_entry blue line (get_or maps (768 + a) 0) (i - (131072 + 256 * a))) (131072 + 256 * a) (131072 + 256 * a + (a + 1)) d2 d3
       → LinesFilled maps line a d d3
-  lines-filled d d1 d2 d3 F0 F1 F2 = record {
+  lines-filled red green blue d d1 d2 d3 e0 e1 e2 F0 F1 F2 = record {
     inside = λ k c lk lc. ⊎_elim
-        (λ h. let q : k ≡ 0 = omega arith in rw q (red c lc))
+        (λ h. let q : k ≡ 0 = omega arith in rw q (in-red c lc))
         (λ h. ⊎_elim
-        (λ g. let q : k ≡ 1 = omega arith in rw q (green c lc))
-        (λ g. let q : k ≡ 2 = omega arith in rw q (line-in 2 512 (131072 + 256 * a) c d2 d3 (omega arith) (omega arith) lc F2))
+        (λ g. let q : k ≡ 1 = omega arith in rw q (in-green c lc))
+        (λ g. let q : k ≡ 2 = omega arith in rw q (line-in blue 2 (131072 + 256 * a) c d2 d3 e2 (omega arith) lc F2))
         (lt-or-le k 2))
         (lt-or-le k 1);
     others = λ k b c lk lb ne lc.
@@ -54,16 +59,16 @@ module _ (maps line : List ℕ) (a : ℕ) (la : a < 256) where
     long = F2.long ∙ F1.long ∙ F0.long;
   }
     where
-      green : (c : ℕ) → c ≤ a → get_or d3 (65536 * 1 + 256 * a + c) 0 ≡ table_entry maps 1 (get_or line c 0) a
-      green c l =
+      in-green : (c : ℕ) → c ≤ a → get_or d3 (65536 * 1 + 256 * a + c) 0 ≡ table_entry maps 1 (get_or line c 0) a
+      in-green c l =
           line_other _ 2 a 1 a c (131072 + 256 * a) d2 d3 la la (omega arith) (omega arith) (omega arith) F2
-          ∙ line-in 1 256 (65536 + 256 * a) c d1 d2 (omega arith) (omega arith) l F1
+          ∙ line-in green 1 (65536 + 256 * a) c d1 d2 e1 (omega arith) l F1
 
-      red : (c : ℕ) → c ≤ a → get_or d3 (65536 * 0 + 256 * a + c) 0 ≡ table_entry maps 0 (get_or line c 0) a
-      red c l =
+      in-red : (c : ℕ) → c ≤ a → get_or d3 (65536 * 0 + 256 * a + c) 0 ≡ table_entry maps 0 (get_or line c 0) a
+      in-red c l =
           line_other _ 2 a 0 a c (131072 + 256 * a) d2 d3 la la (omega arith) (omega arith) (omega arith) F2
           ∙ line_other _ 1 a 0 a c (65536 + 256 * a) d1 d2 la la (omega arith) (omega arith) (omega arith) F1
-          ∙ line-in 0 0 (256 * a) c d d1 (omega arith) (omega arith) l F0
+          ∙ line-in red 0 (256 * a) c d d1 e0 (omega arith) l F0
 
 -- the lines of the alphas before n are filled
 pub record TablesFilled (to : Space) (inner maps : List ℕ) (n : ℕ) (d : List ℕ) : Type 0 where
@@ -74,14 +79,14 @@ tables-filled-none to inner maps d = record { filled = λ k a c lk la lc. absurd
 
 -- one alpha more
 pub tables-filled-more : (to : Space) (inner maps line₀ line : List ℕ) (n : ℕ) (d d' : List ℕ) → n < 256 → TablesFilled to inner maps n d
-    → Filled (unpremultiplied_at to inner n) 0 (n + 1) line₀ line → LinesFilled maps line n d d' → TablesFilled to inner maps (n + 1) d'
+    → Filled (unpremultiplied_at to inner n) 0 (n + 1) line₀ line → LinesFilled maps (take (n + 1) line) n d d' → TablesFilled to inner maps (n + 1) d'
 tables-filled-more to inner maps line₀ line n d d' ln R S L = record {
   filled = λ k a c lk la lc. ⊎_elim
       (λ h. L.others k a c lk (omega arith) (omega arith) (omega arith) ∙ R.filled k a c lk h lc)
       (λ h.
       let q : a ≡ n = omega arith in
       let lc' : c ≤ n = omega arith in
-      rw q (L.inside k c lk lc' ∙ ap (λ (u : ℕ). table_entry maps k u n) (S.inside c (omega arith) (omega arith))))
+      rw q (L.inside k c lk lc' ∙ ap (λ (u : ℕ). table_entry maps k u n) (get_or-take (n + 1) line c 0 (omega arith) ∙ S.inside c (omega arith) (omega arith))))
       (lt-or-le a n);
 }
 

@@ -1,12 +1,14 @@
--- The map of a space: entries of the rules' table, which are the conversion at full alpha; and unpremultiplying by a divisor that is not 0.
--- Assumes nothing.
-use Prim.Native.Nat.{ℕ, ◌+◌, ◌*◌, ◌/◌, ◌≤◌, ◌<◌}
-use mathlib.Core.Path.{◌≡◌, refl, ◌∙◌, ap}
-use mathlib.Core.Bool.{Bool, true, false, cond}
+-- The map of a space: entries of the rules' table, which are the conversion at full alpha; and a colour as it is seen. Assumes nothing.
+use Prim.Native.Nat.{ℕ, ◌+◌, ◌*◌, ◌≤◌, ◌<◌}
+use mathlib.Core.Path.{◌≡◌, ◌∙◌, ap}
+use mathlib.Core.Bool.{false}
 use native.Mathlib.Omega.{arith}
 use lib.Dec.{eqb}
-use lib.ListN.{get_or}
-use borrow.Author.Tests.{eqb-true, eqb-false}
+use mathlib.Core.List.{List}
+use lib.ListN.{length, get_or}
+use Rattle.kernel_remap.specs.Code.{seen_colour}
+use Rattle.kernel_remap.specs.Remaps.{Inner}
+use borrow.Author.Tests.{eqb-false}
 use Rattle.pixel.specs.declared.Space.{Space}
 use Rattle.pixel.specs.Alpha.{premultiplied, unpremultiplied}
 use Rattle.pixel.specs.Space.{table_of}
@@ -21,21 +23,14 @@ pair-full to c =
     let down : premultiplied (get_or (table_of to) c 0) 255 ≡ get_or (table_of to) c 0 = omega arith in
     ap (λ (u : ℕ). premultiplied (get_or (table_of to) u 0) 255) up ∙ down
 
--- at the alpha 0 the colour is 0, and any divisor gives it
-pub divided : (c a : ℕ) → c ≤ a → (255 * c + a / 2) / cond (eqb a 0) 1 a ≡ unpremultiplied c a
-divided c a l = go (eqb a 0) refl
-  where
-    go : (t : Bool) → eqb a 0 ≡ t → (255 * c + a / 2) / cond t 1 a ≡ cond t 0 ((255 * c + a / 2) / a)
-    go true e = omega (arith, eqb-true a 0 e)
-    go false e = refl
-
-pub divisor-pos : (a : ℕ) → 0 < cond (eqb a 0) 1 a
-divisor-pos a = go (eqb a 0) refl
-  where
-    go : (t : Bool) → eqb a 0 ≡ t → 0 < cond t 1 a
-    go true e = omega arith
-    go false e = omega (arith, eqb-false a 0 e)
-
 -- a converted colour is at most its alpha
 pub pair-le : (to : Space) (c a : ℕ) → c ≤ a → pair_of to c a ≤ a
 pair-le to c a l = premultiplied-le (get_or (table_of to) (unpremultiplied c a) 0) a ((space-bytes to).r _ (unpremultiplied-byte c a l))
+
+-- where there is a table, its entry is the colour as it is seen
+pub seen-entry : (to : Space) (inner : List ℕ) (c a : ℕ) → Inner to inner → eqb (length inner) 0 ≡ false → c ≤ a → a < 256
+    → (get_or inner (256 * a + c) 0 ≡ seen_colour to inner c a) × (get_or inner (256 * a + c) 0 ≤ a)
+seen-entry to inner c a I none l h =
+    let some : 0 < length inner = omega (arith, eqb-false _ 0 none) in
+    let e = (I.good some).entry a c h (omega arith) in
+    (rw none e, rw e (pair-le to c a l))

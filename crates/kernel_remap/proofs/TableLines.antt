@@ -1,10 +1,13 @@
 -- Tables filled line by line, a line for each alpha. Assumes nothing.
 use mathlib.Core.Path.{◌≡◌, refl, ◌∙◌, ap, sym}
-use mathlib.Core.List.{List}
+use mathlib.Core.List.{List, ◌++◌}
 use mathlib.Core.Logic.{⊎_elim, ◌≢◌}
 use Prim.Native.Nat.{ℕ, ◌+◌, ◌-◌, ◌*◌, ◌≤◌, ◌<◌}
 use native.Mathlib.Omega.{arith}
-use lib.ListN.{length, get_or}
+use lib.ListN.{length, get_or, take, drop, get_or-append}
+use Rattle.std.proofs.lemmas.List.{get_or-append_right}
+use Rattle.std.proofs.Common.{length-append, length-take, length-drop, length-take-le, get_or-take, get_or-drop}
+use borrow.Rule.Slice.PartMut.{put_mid}
 use Rattle.window.specs.Store.{Filled}
 use Rattle.window.proofs.Store.{lt-or-le}
 use Rattle.pixel.specs.declared.Space.{Space}
@@ -12,6 +15,7 @@ use Rattle.pixel.specs.Alpha.{premultiplied, unpremultiplied}
 use Rattle.pixel.specs.Convert.{pair_of}
 use Rattle.pixel.proofs.Premultiplied.{unpremultiplied-byte}
 use Rattle.pixel.proofs.Converted.{pair-zero, pair-above}
+use Rattle.kernel_remap.specs.Pairs.{Pairs}
 use Rattle.kernel_remap.specs.Code.{Mapped, unpremultiplied_at, line_entry}
 
 -- the conversion's lines before n are filled, the others still 0: up to the alpha by the conversion, 0 above it
@@ -30,12 +34,11 @@ begun_first to d z = record {
 
 -- an entry of a line, by the rules' map and with no conversion before it
 pub line-pair : (to : Space) (none map line line₀ : List ℕ) (o a c : ℕ) → length none ≡ 0 → Mapped to map → c ≤ a
-    → Filled (unpremultiplied_at to none a) 0 (a + 1) line₀ line → line_entry map 0 line o a (o + c) ≡ pair_of to c a
+    → Filled (unpremultiplied_at to none a) 0 (a + 1) line₀ line → line_entry map (take (a + 1) line) a (o + c - o) ≡ pair_of to c a
 line-pair to none map line line₀ o a c z M l S =
     let at : o + c - o ≡ c = omega arith in
-    let u : get_or line c 0 ≡ unpremultiplied c a = S.inside c (omega arith) (omega arith) ∙ rw z refl in
-    let i : 0 + unpremultiplied c a ≡ unpremultiplied c a = omega arith in
-    rw (at, u, i) (ap (λ (v : ℕ). premultiplied v a) (M.entry (unpremultiplied c a) (unpremultiplied-byte c a l)))
+    let u : get_or (take (a + 1) line) c 0 ≡ unpremultiplied c a = get_or-take (a + 1) line c 0 (omega arith) ∙ S.inside c (omega arith) (omega arith) ∙ rw z refl in
+    rw (at, u) (ap (λ (v : ℕ). premultiplied v a) (M.entry (unpremultiplied c a) (unpremultiplied-byte c a l)))
 
 -- one line more
 pub begun_more : (to : Space) (f : ℕ → ℕ) (n : ℕ) (d d' : List ℕ) → n < 256 → ((c : ℕ) → c ≤ n → f (256 * n + c) ≡ pair_of to c n) → Begun to n d
@@ -61,3 +64,7 @@ line_other f j a k b c o d d' la lb lc ne at F = ⊎_elim
     (λ h. F.before (65536 * k + 256 * b + c) h)
     (λ h. F.after (65536 * k + 256 * b + c) (omega arith))
     (lt-or-le (65536 * k + 256 * b + c) o)
+
+-- an entry where the table starts at 0
+pub pair-in : {to : Space} {d : List ℕ} → Pairs to d → (a c : ℕ) → a < 256 → c < 256 → get_or d (0 + 256 * a + c) 0 ≡ pair_of to c a
+pair-in {to = to} {d = d} P a c la lc = let at : 0 + 256 * a + c ≡ 256 * a + c = omega arith in rw at (P.entry a c la lc)

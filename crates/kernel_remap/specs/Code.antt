@@ -1,5 +1,5 @@
 -- What the code's own steps work out. No promise to a caller cites this. Assumes nothing.
-use Rattle.std.specs.Prelude.{ℕ, ◌+◌, ◌-◌, ◌*◌, ◌≤◌, ◌<◌, ◌≡◌, cond, List, ◌≢◌, eqb, length, get_or}
+use Rattle.std.specs.Prelude.{ℕ, ◌+◌, ◌*◌, ◌≤◌, ◌<◌, ◌≡◌, cond, List, ◌≢◌, eqb, length, get_or}
 use Rattle.pixel.specs.declared.Space.{Space}
 use Rattle.pixel.specs.Alpha.{premultiplied, unpremultiplied}
 use Rattle.pixel.specs.Convert.{pair_of}
@@ -18,9 +18,9 @@ seen_colour to inner c a = cond (eqb (length inner) 0) c (pair_of to c a)
 abbrev pub unpremultiplied_at : Space → List ℕ → ℕ → ℕ → ℕ
 unpremultiplied_at to inner a c = unpremultiplied (seen_colour to inner c a) a
 
--- the entry at the index i of a line that starts at o: what the map at m has for the colour of the line, premultiplied by b
-abbrev pub line_entry : List ℕ → ℕ → List ℕ → ℕ → ℕ → ℕ → ℕ
-line_entry maps m line o b i = premultiplied (get_or maps (m + get_or line (i - o) 0) 0) b
+-- the entry i of a line: what a map has for the colour of the line, premultiplied by b
+abbrev pub line_entry : List ℕ → List ℕ → ℕ → ℕ → ℕ
+line_entry map line b i = premultiplied (get_or map (get_or line i 0) 0) b
 
 -- the entry for the colour that is u unpremultiplied, at the alpha a: k is 0, 1, 2 for R, G, B
 abbrev pub table_entry : List ℕ → ℕ → ℕ → ℕ → ℕ

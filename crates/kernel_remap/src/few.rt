@@ -8,7 +8,6 @@ ghost use Rattle.pixel.specs.Word.{Packed};
 ghost use Rattle.window.specs.Limits.{longest_side};
 ghost use Rattle.kernel_remap.specs.Remaps.{maps_in};
 
-use super::table::place;
 use pixel::alpha::premultiply;
 use pixel::convert::convert_pair;
 use pixel::{Pixel, Space, bytes};
@@ -23,7 +22,7 @@ fn convert_at(to: Space, row: &[u8], i: usize) -> u32
         r: convert_pair(to, row[i], a),
         g: convert_pair(to, row[i + 1], a),
         b: convert_pair(to, row[i + 2], a),
-        a: a,
+        a,
     })
 }
 
@@ -38,21 +37,12 @@ pub fn convert_few(to: Space, row: &mut [u8], count: usize)
     }
 }
 
-fn divisor(a: u32) -> u32
-    ensures { result ≡ cond (eqb a 0) 1 a }
-{
-    if a == 0 {
-        return 1;
-    }
-    a
-}
-
 // The colour c at the alpha a, unpremultiplied; at the alpha 0, where c is 0, a division by 1 gives 0 with no branch of its own.
 fn unpremultiply(c: u8, a: u8) -> u8
     requires { c ≤ a }
     ensures { result ≡ unpremultiplied c a }
 {
-    ((255 * (c as u32) + (a as u32) / 2) / divisor(a as u32)) as u8
+    ((255 * (c as u32) + (a as u32) / 2) / (a as u32).max(1)) as u8
 }
 
 // The colour c of the alpha a, by the map that starts at m, premultiplied by the new alpha b.
@@ -60,7 +50,7 @@ fn remap_color(maps: &[u8], m: usize, c: u8, a: u8, b: u8) -> u8
     requires { (m + 256 ≤ length maps.now) × (c ≤ a) }
     ensures { result ≡ premultiplied (get_or maps.now (m + unpremultiplied c a) 0) b }
 {
-    premultiply(maps[m + place(unpremultiply(c, a))], b)
+    premultiply(maps[m + unpremultiply(c, a) as usize], b)
 }
 
 // The pixel whose four bytes start at i, by four maps, as one number.
@@ -69,7 +59,7 @@ fn remap_at(maps: &[u8], src: &[u8], i: usize) -> u32
     ensures { Packed (remapped (maps_in maps.now) (pixel_at src.now i)) result }
 {
     let a = src[i + 3];
-    let b = maps[768 + place(a)];
+    let b = maps[768 + a as usize];
     bytes::pack(Pixel {
         r: remap_color(maps, 0, src[i], a, b),
         g: remap_color(maps, 256, src[i + 1], a, b),

@@ -27,15 +27,7 @@ pub fn prepare(to: Space, table: &mut [u8])
     table::fill_lines(to, &map, table);
 }
 
-// The colour c at the alpha a, converted. Only the contract reads `to`, here and below.
-fn look(to: Space, table: &[u8], c: u32, a: u32) -> u8
-    requires { Pairs to table.now × (c < 256) × (a < 256) }
-    ensures { result ≡ pair_of to c a }
-{
-    table[(256 * a + c) as usize]
-}
-
-// A pixel as one number, converted.
+// A pixel as one number, converted. Only the contract reads `to`, here and below.
 fn convert_word(to: Space, table: &[u8], v: u32) -> u32
     requires { Pairs to table.now }
     ensures { Packed (remapped (space_maps to) (unpacked v)) result }
@@ -43,9 +35,9 @@ fn convert_word(to: Space, table: &[u8], v: u32) -> u32
     let a = v / 16777216;
     let alpha = a as u8;
     bytes::pack(Pixel {
-        r: look(to, table, v % 256, a),
-        g: look(to, table, v / 256 % 256, a),
-        b: look(to, table, v / 65536 % 256, a),
+        r: table::look(table, 0, v % 256, a),
+        g: table::look(table, 0, v / 256 % 256, a),
+        b: table::look(table, 0, v / 65536 % 256, a),
         a: alpha,
     })
 }

@@ -6,19 +6,19 @@ ghost use Rattle.pixel.specs.Word.{Packed, unpacked};
 ghost use Rattle.kernel_remap.specs.Code.{LinesFilled};
 ghost use Rattle.kernel_remap.specs.Remaps.{Inner, Remaps, looked_up, looked_up_at};
 
-use super::table::{fill_line, fill_unpremultiplied};
+use super::table::{fill_line, fill_unpremultiplied, look};
 use kernel_alpha::unpremultiply::prepare;
 use pixel::{Pixel, Space, bytes};
 
 // The lines of the alpha a in the three tables.
 fn fill_tables(maps: &[u8], line: &[u8], tables: &mut [u8], a: usize)
-    requires { (length maps.now ≡ 1024) × (length line.now ≡ 256) × (length tables.old ≡ 196608) × (a < 256) }
+    requires { (length maps.now ≡ 1024) × (length line.now ≡ a + 1) × (length tables.old ≡ 196608) × (a < 256) }
     ensures { LinesFilled maps.now line.now a tables.old tables.new }
 {
     let b = maps[768 + a];
-    fill_line(maps, 0, line, tables, 256 * a, a + 1, b);
-    fill_line(maps, 256, line, tables, 65536 + 256 * a, a + 1, b);
-    fill_line(maps, 512, line, tables, 131072 + 256 * a, a + 1, b);
+    fill_line(&maps[..256], line, tables, 256 * a, b);
+    fill_line(&maps[256..512], line, tables, 65536 + 256 * a, b);
+    fill_line(&maps[512..768], line, tables, 131072 + 256 * a, b);
 }
 
 // The tables of four maps. Where `inner` is a table of the conversion to the space `to`, the conversion comes first, at no cost to a row; where
@@ -32,16 +32,8 @@ pub fn prepare_maps(to: Space, inner: &[u8], maps: &[u8], tables: &mut [u8])
     let mut line = [0u8; 256];
     for a in 0usize..256 {
         fill_unpremultiplied(to, inner, &inverse, a, &mut line);
-        fill_tables(maps, &line, tables, a);
+        fill_tables(maps, &line[..a + 1], tables, a);
     }
-}
-
-// The entry for a colour c at the alpha a of the table that starts at t.
-fn look(tables: &[u8], t: u32, c: u32, a: u32) -> u8
-    requires { (length tables.now ≡ 196608) × (t ≤ 131072) × (c < 256) × (a < 256) }
-    ensures { result ≡ get_or tables.now (t + 256 * a + c) 0 }
-{
-    tables[(t + 256 * a + c) as usize]
 }
 
 // A pixel as one number, remapped.

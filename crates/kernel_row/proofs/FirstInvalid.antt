@@ -1,33 +1,15 @@
 -- Laws of the first invalid pixel: it is exactly the one that is not valid after valid ones; there is none exactly where all are valid.
 -- Assumes nothing.
-use Rattle.std.proofs.Common.{◌≡◌, ℕ, zero, suc, ◌+◌, ◌*◌, ◌<◌, ◌≤◌, Bool, true, false, not, ◌&&◌, ◌||◌, ltb, leb, List, get_or, take, drop, sym, refl, ap, ◌∙◌, ap₂, ⊎_elim, mul-le-mul_right, mul_comm, add-one, arith, get_or-drop, get_or-take, le-ltb, lt-ltb, le-leb}
-use borrow.Author.Tests.{lt-leb}
+use Rattle.std.proofs.Common.{◌≡◌, ℕ, zero, suc, ◌+◌, ◌*◌, ◌<◌, ◌≤◌, Bool, true, false, not, ◌&&◌, ◌||◌, List, take, drop, sym, refl, ap, ◌∙◌, ap₂, ⊎_elim, mul-le-mul_right, mul_comm, add-one, arith, le-ltb, lt-ltb}
 use Rattle.window.proofs.Truths.{and_left, and_right}
 use Rattle.window.proofs.Store.{lt-or-le}
-use Rattle.pixel.specs.declared.Pixel.{Pixel}
 use Rattle.pixel.specs.Bytes.{pixel_at, valid?, first_invalid}
 use Rattle.kernel_row.specs.Code.{all_valid?}
-use Rattle.pixel.proofs.PaintedRows.{pixel-same}
-
-above : (x a : ℕ) → ltb a x ≡ not (leb x a)
-above x a = ⊎_elim
-    (λ (h : a < x). lt-ltb a x h ∙ ap not (sym (lt-leb x a h)))
-    (λ (h : x ≤ a). le-ltb a x h ∙ ap not (sym (le-leb x a h)))
-    (lt-or-le a x)
+use Rattle.pixel.proofs.PaintedRows.{pixel-part}
 
 not-and : (a b : Bool) → (not a || not b) ≡ not (a && b)
 not-and true b = refl
 not-and false b = refl
-
-three : (a b c : Bool) → ((not a || not b) || not c) ≡ not (a && (b && c))
-three true b c = not-and b c
-three false b c = refl
-
--- a colour above the alpha, as the code tests it
-pub exceeding : (p : Pixel) → ((ltb p.a p.r || ltb p.a p.g) || ltb p.a p.b) ≡ not (valid? p)
-exceeding p =
-    rw (above p.r p.a, above p.g p.a, above p.b p.a)
-    (three (leb p.r p.a) (leb p.g p.a) (leb p.b p.a))
 
 -- one pixel more
 pub all-valid-more : (s : List ℕ) (x : ℕ) (bad e : Bool) → bad ≡ not (all_valid? s x) → e ≡ not (valid? (pixel_at s (4 * x))) → (bad || e) ≡ not (all_valid? s (x + 1))
@@ -56,10 +38,7 @@ first-row s p k o (suc w) eo l e v =
     let good : Bool = all_valid? t w in
     let last : Bool = valid? (pixel_at t (4 * w)) in
     let z : p + suc w ≡ p + w + 1 = omega arith in
-    let same : pixel_at t (4 * w) ≡ pixel_at s (4 * (p + w))
-    = pixel-same t s (4 * w) (4 * (p + w)) (λ c lc.
-    let q : o + (4 * w + c) ≡ 4 * (p + w) + c = omega arith in
-    get_or-take k (drop o s) (4 * w + c) 0 (omega arith) ∙ get_or-drop o s (4 * w + c) 0 ∙ ap (λ (i : ℕ). get_or s i 0) q) in
+    let same : pixel_at t (4 * w) ≡ pixel_at s (4 * (p + w)) = pixel-part s o k (4 * w) (4 * (p + w)) (omega arith) (omega arith) in
     rw z (first-invalid-more s (p + w) (first-row s p k o w eo (omega arith) e (and_left good last v)) (ap valid? (sym same) ∙ and_right good last v))
 
 -- the pixels of row y end before those of h rows do

@@ -47,9 +47,9 @@ taken : (d n c : ℕ) → d < 4294967296 → n < 4294967296 → (d + n) % 429496
 taken d n c ld ln e = ⊎_elim (λ (h : d + n < 4294967296). inl (omega arith)) (λ (h : 4294967296 ≤ d + n). inr (omega arith)) (lt-or-le (d + n) 4294967296)
 
 -- x and y taken from a in the halves of a word: a difference below zero sets the top bit
-pub marked-halves : (a x y d : ℕ) → a < 256 → x < 256 → y < 256 → d < 4294967296 → (d + (x + y * 65536)) % 4294967296 ≡ a * 65537
+marked-by : (a x y d : ℕ) → a < 256 → x < 256 → y < 256 → d < 4294967296 → (d + (x + y * 65536)) % 4294967296 ≡ a * 65537
     → marked? d ≡ not (leb x a && leb y a)
-marked-halves a x y d la lx ly ld e =
+marked-by a x y d la lx ly ld e =
     let n : ℕ = d / 32768 % 2 + d / 2147483648 % 2 in
     let by = taken d (x + y * 65536) (a * 65537) ld (omega arith) e in
     ⊎_elim
@@ -72,6 +72,10 @@ marked-halves a x y d la lx ly ld e =
     le-ltb 0 n (omega (arith, low, high)) ∙ ap₂ (λ (b c : Bool). not (b && c)) (sym (le-leb x a h)) (sym (le-leb y a g)))
     (lt-or-le a y))
     (lt-or-le a x)
+
+-- the difference as the code works it out
+pub marked-halves : (a x y : ℕ) → a < 256 → x < 256 → y < 256 → marked? ((a * 65537 + (4294967296 - (x + y * 65536))) % 4294967296) ≡ not (leb x a && leb y a)
+marked-halves a x y la lx ly = marked-by a x y _ la lx ly (omega arith) (omega arith)
 
 -- the marks of R and B, and those of G and A
 pub marked-pixel : (p : Pixel) (d e : ℕ) → marked? d ≡ not (leb p.r p.a && leb p.b p.a) → marked? e ≡ not (leb p.g p.a && leb p.a p.a)

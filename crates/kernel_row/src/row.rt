@@ -12,19 +12,13 @@ pub fn copy(src: &[u8], dst: &mut [u8])
     requires { length src.now ≡ length dst.old }
     ensures { dst.new ≡ src.now }
 {
-    let n = dst.len();
-    for i in 0..n {
-        dst[i] = src[i];
-    }
+    dst.copy_from_slice(src);
 }
 
 pub fn clear(dst: &mut [u8])
     ensures { dst.new ≡ replicate (length dst.old) 0 }
 {
-    let n = dst.len();
-    for i in 0..n {
-        dst[i] = 0;
-    }
+    dst.fill(0);
 }
 
 // Stores p as each of n pixels.
@@ -54,7 +48,7 @@ pub fn clear_pixels(dst: &mut [u8], from: usize, to: usize)
     requires { (from ≤ to) × (4 * to ≤ length dst.old) }
     ensures { Painted (λ x. transparent) 0 from to dst.old dst.new }
 {
-    clear(&mut dst[4 * from..4 * to]);
+    dst[4 * from..4 * to].fill(0);
 }
 
 // Copies pixels of src, from its pixel `at` on, to the pixels from `from` up to `to` of a row.
@@ -64,7 +58,7 @@ pub fn copy_pixels(src: &[u8], at: usize, dst: &mut [u8], from: usize, to: usize
 {
     let o = 4 * at;
     let e = o + 4 * (to - from);
-    copy(&src[o..e], &mut dst[4 * from..4 * to]);
+    dst[4 * from..4 * to].copy_from_slice(&src[o..e]);
 }
 
 // The first place from `from` on, and at most `to`, at which x + m is not below t.
@@ -72,13 +66,7 @@ fn part(t: usize, m: usize, from: usize, to: usize) -> usize
     requires { (from ≤ to) × (to ≤ longest_side) × (m ≤ longest_side) }
     ensures { Parted t m from to result }
 {
-    if t <= from + m {
-        return from;
-    }
-    if to + m <= t {
-        return to;
-    }
-    t - m
+    t.saturating_sub(m).clamp(from, to)
 }
 
 // The pixels from `from` up to `to` of a row of w pixels that is moved by right - left.

@@ -5,7 +5,6 @@ ghost use Rattle.pixel.specs.Word.{unpacked};
 ghost use Rattle.kernel_row.specs.Code.{all_valid?, marked?};
 
 use pixel::bytes;
-use std::num::wrapping_sub_u32;
 
 // Whether a colour of the pixel v exceeds its alpha.
 fn exceeds(v: u32) -> bool
@@ -29,8 +28,8 @@ fn marks_of(v: u32) -> u32
 {
     let a = v / 16777216;
     let twice = a * 65537;
-    let first = wrapping_sub_u32(twice, v % 256 + v / 65536 % 256 * 65536);
-    first | wrapping_sub_u32(twice, v / 256 % 256 + a * 65536)
+    let first = twice.wrapping_sub(v % 256 + v / 65536 % 256 * 65536);
+    first | twice.wrapping_sub(v / 256 % 256 + a * 65536)
 }
 
 // Whether a colour exceeds its alpha in a row of n pixels. The marks are gathered and looked at once, which costs less than a test of
@@ -41,7 +40,7 @@ fn any_exceeds(s: &[u8], n: usize) -> bool
 {
     let mut marks: u32 = 0;
     for x in 0..n {
-        marks = marks | marks_of(bytes::word(s, 4 * x));
+        marks |= marks_of(bytes::word(s, 4 * x));
     }
     marked(marks)
 }

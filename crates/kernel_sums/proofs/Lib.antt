@@ -2,5 +2,6 @@
 pub mod ReciprocalDivides
 pub mod SlidingSums
 pub mod FilledRanges
+pub mod FilledParts
 pub mod LinesApart
 pub mod PassColumns

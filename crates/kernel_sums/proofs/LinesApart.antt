@@ -3,14 +3,13 @@ use mathlib.Core.Path.{◌≡◌, ap, ◌∙◌}
 use mathlib.Core.List.{List}
 use mathlib.Core.Logic.{inl, inr, ⊎_elim}
 use Prim.Native.Nat.{ℕ, ◌+◌, ◌-◌, ◌*◌, ◌≤◌, ◌<◌}
-use native.Mathlib.Nat.{add-zero}
 use native.Mathlib.Omega.{arith}
 use lib.ListN.{length, get_or, set}
 use Rattle.window.specs.Ranges.{Apart}
 use Rattle.window.specs.Store.{Filled, Lined, byte_at}
 use Rattle.window.specs.Window.{within, column}
 use Rattle.window.proofs.Numbers.{line-end}
-use Rattle.window.proofs.Store.{lt-or-le, filled_none, filled_more}
+use Rattle.window.proofs.Store.{lt-or-le, filled_more}
 use Rattle.window.proofs.BandedPasses.{within_in, within-out, within_same, column-is}
 
 module _ (d : List ℕ) (o n count i : ℕ) where
@@ -28,10 +27,7 @@ module _ (d : List ℕ) (o n count i : ℕ) where
       (λ l. omega (arith, column-out v l))
       (lt-or-le v count)
 
--- the bytes of a line, one store after another
-pub line-none : (f : ℕ → ℕ) (r : ℕ) (d : List ℕ) → Filled (λ j. f (j - r)) r (r + 0) d d
-line-none f r d = rw (add-zero r) (filled_none (λ j. f (j - r)) r d)
-
+-- one byte of a line more
 pub line-more : (f : ℕ → ℕ) (r i v : ℕ) (d d' : List ℕ) → r + i < length d → v ≡ f i → Filled (λ j. f (j - r)) r (r + i) d d' → Filled (λ j. f (j - r)) r (r + (i + 1)) d (set d' (r + i) v)
 line-more f r i v d d' h e F =
     let q : r + (i + 1) ≡ r + i + 1 = omega arith in

@@ -1,13 +1,13 @@
 -- A reciprocal that is rounded up divides, where the number is so small that the rounding does not count. Assumes nothing.
 use mathlib.Core.Path.{◌≡◌, ap, ◌∙◌}
 use Prim.Native.Nat.{ℕ, ◌+◌, ◌-◌, ◌*◌, ◌/◌, ◌≤◌, ◌<◌, ◌^◌}
-use native.Mathlib.Nat.{mul_assoc, mul-add, mul-le-mul, lt_of_mul-lt-mul_right, div-mul-le_self, div-lt_iff_lt-mul, div-div-eq-div-mul, lt-div-mul-add}
+use native.Mathlib.Nat.{mul_assoc, mul-add, mul-le-mul, div-mul-le_self, div-lt_iff_lt-mul, div-div-eq-div-mul, lt-div-mul-add}
 use native.Mathlib.Omega.{arith}
 use mathlib.Core.Logic.{⊎_elim}
 use lib.Pow.{pow_mono}
 use Rattle.window.proofs.Numbers.{quotient}
 use Rattle.window.proofs.Store.{lt-or-le}
-use Rattle.kernel_sums.specs.Reciprocal.{Divides}
+use Rattle.kernel_sums.specs.Reciprocal.{Divides, LargestBelow, ceiling}
 
 -- m * size is p and e more, and t * e does not reach p
 by_product : (t size m p e : ℕ) → 0 < size → m * size ≡ p + e → t * e < p → t * m / p ≡ t / size
@@ -21,31 +21,27 @@ module _ (a size : ℕ) (pos : 0 < size) where
   pub up-most : (a + (size - 1)) / size * size < a + size
   up-most = omega (arith, div-mul-le_self (a + (size - 1)) size)
 
--- the reciprocal of a size up to 64: power is the largest power of two below size
-module _ (power shift size mul : ℕ) (is : power ≡ 2 ^ shift) (below : power < size) (most : size ≤ power * 2) (limit : size ≤ 64)
-    (mul_is : mul ≡ (power * 65536 + (size - 1)) / size) where
-  mul-least : power * 65536 ≤ mul * size
-  mul-least = rw mul_is (up_least (power * 65536) size (omega arith))
+-- the reciprocal of a size up to 64
+module _ (shift size mul : ℕ) (largest : LargestBelow shift size) (limit : size ≤ 64) (mul_is : mul ≡ ceiling (2 ^ shift * 65536) size) where
+  mul-least : 2 ^ shift * 65536 ≤ mul * size
+  mul-least = rw mul_is (up_least (2 ^ shift * 65536) size (omega (arith, largest.below)))
 
-  mul_most : mul * size < power * 65536 + size
-  mul_most = rw mul_is (up-most (power * 65536) size (omega arith))
+  mul_most : mul * size < 2 ^ shift * 65536 + size
+  mul_most = rw mul_is (up-most (2 ^ shift * 65536) size (omega (arith, largest.below)))
 
-  pub fits : mul < 65536
-  fits = lt_of_mul-lt-mul_right size (omega (arith, mul_most))
-
-  rest : (t : ℕ) → t ≤ 255 * size + size / 2 → t * (mul * size - power * 65536) < power * 65536
+  rest : (t : ℕ) → t ≤ 255 * size + size / 2 → t * (mul * size - 2 ^ shift * 65536) < 2 ^ shift * 65536
   rest t le =
-      let e : mul * size - power * 65536 ≤ 63 = omega (arith, mul_most) in
-      omega (arith, mul-le-mul {n₁ = t} {m₁ = mul * size - power * 65536} {n₂ = power * 511} {m₂ = 63} (omega arith) e)
+      let e : mul * size - 2 ^ shift * 65536 ≤ 63 = omega (arith, mul_most) in
+      omega (arith, largest.below, mul-le-mul {n₁ = t} {m₁ = mul * size - 2 ^ shift * 65536} {n₂ = 2 ^ shift * 511} {m₂ = 63} (omega (arith, largest.most)) e)
 
   small : shift < 16
-  small = ⊎_elim (λ l. l) (λ l. let big : 2 ^ 16 ≤ 2 ^ shift = pow_mono l in absurd (omega arith)) (lt-or-le shift 16)
+  small = ⊎_elim (λ l. l) (λ l. let big : 2 ^ 16 ≤ 2 ^ shift = pow_mono l in absurd (omega (arith, largest.below))) (lt-or-le shift 16)
 
   pub divides : Divides mul shift size
   divides = record {
-    exact = λ t le. div-div-eq-div-mul (t * mul) 65536 (2 ^ shift) ∙ by_product t size mul (65536 * 2 ^ shift) (mul * size - power * 65536) (omega arith) (omega (arith, mul-least)) (omega (arith, rest t le));
+    exact = λ t le. div-div-eq-div-mul (t * mul) 65536 (2 ^ shift) ∙ by_product t size mul (65536 * 2 ^ shift) (mul * size - 2 ^ shift * 65536) (omega (arith, largest.below)) (omega (arith, mul-least)) (omega (arith, rest t le));
     small = small;
-    some = omega arith;
+    some = omega (arith, largest.below);
   }
 
 -- a byte's mean is a byte

@@ -3,6 +3,7 @@ ghost use Rattle.window.specs.Store.{Filled};
 ghost use Rattle.window.specs.Window.{behind};
 ghost use Rattle.kernel_sums.specs.Running.{columns, Sums, without};
 
+use crate::reciprocal::Reciprocal;
 use crate::sums::{gain, lose};
 
 // A pass over count lines of n bytes: the means of those at from go to those at to.
@@ -14,8 +15,7 @@ pub struct BoxPass {
     pub count: usize,
     pub back: usize,
     pub ahead: usize,
-    pub mul: u16,
-    pub shift: u16,
+    pub by: Reciprocal,
 }
 
 // Adds line v, or nothing where there is no line v.
@@ -26,7 +26,7 @@ pub fn enter(buf: &[u8], p: BoxPass, v: usize, sums: &mut [u16])
 {
     if v < p.count {
         let o = p.from + v * p.n;
-        gain(buf, o, sums, p.n);
+        gain(&buf[o..o + p.n], sums);
     }
 }
 
@@ -38,7 +38,7 @@ pub fn leave(buf: &[u8], p: BoxPass, y: usize, sums: &mut [u16])
 {
     if p.back < y {
         let o = p.from + (y - p.back - 1) * p.n;
-        lose(buf, o, sums, p.n);
+        lose(&buf[o..o + p.n], sums);
     }
 }
 
@@ -48,9 +48,7 @@ pub fn start(buf: &[u8], p: BoxPass, sums: &mut [u16])
     ensures { Sums p buf.now 0 sums.new }
 {
     let half = ((p.back + p.ahead + 1) / 2) as u16;
-    for i in 0..p.n {
-        sums[i] = half;
-    }
+    sums[..p.n].fill(half);
     for v in 0..p.ahead {
         enter(buf, p, v, sums);
     }

@@ -4,44 +4,38 @@ ghost use Rattle.kernel_sums.specs.Reciprocal.{Divides};
 ghost use Rattle.kernel_sums.specs.Running.{slid, Slides};
 ghost use Rattle.window.specs.Ranges.{Apart};
 
-use crate::reciprocal::mean;
+use crate::reciprocal::{Reciprocal, mean};
 
-fn wide(x: u8) -> u16
-    ensures { (result ≡ x) × (result < 256) }
+// Adds a line, byte by byte.
+pub fn gain(line: &[u8], sums: &mut [u16])
+    requires n_in_bounds { length line.now ≤ length sums.old }
+    requires by_index { (i : ℕ) → i < length line.now → get_or sums.old i 0 < 65280 }
+    ensures { Filled (λ i. get_or sums.old i 0 + get_or line.now i 0) 0 (length line.now) sums.old sums.new }
 {
-    x as u16
-}
-
-// Adds the line of n bytes at p.
-pub fn gain(buf: &[u8], p: usize, sums: &mut [u16], n: usize)
-    requires n_in_bounds { (p + n ≤ length buf.now) × (n ≤ length sums.old) }
-    requires by_index { (i : ℕ) → i < n → get_or sums.old i 0 < 65280 }
-    ensures { Filled (λ i. get_or sums.old i 0 + get_or buf.now (p + i) 0) 0 n sums.old sums.new }
-{
-    for i in 0..n {
-        sums[i] = sums[i] + wide(buf[p + i]);
+    for (i, x) in line.iter().enumerate() {
+        sums[i] += u16::from(*x);
     }
 }
 
-// Takes the line of n bytes at p away.
-pub fn lose(buf: &[u8], p: usize, sums: &mut [u16], n: usize)
-    requires n_in_bounds { (p + n ≤ length buf.now) × (n ≤ length sums.old) }
-    requires by_index { (i : ℕ) → i < n → get_or buf.now (p + i) 0 ≤ get_or sums.old i 0 }
-    ensures { Filled (λ i. get_or sums.old i 0 - get_or buf.now (p + i) 0) 0 n sums.old sums.new }
+// Takes a line away.
+pub fn lose(line: &[u8], sums: &mut [u16])
+    requires n_in_bounds { length line.now ≤ length sums.old }
+    requires by_index { (i : ℕ) → i < length line.now → get_or line.now i 0 ≤ get_or sums.old i 0 }
+    ensures { Filled (λ i. get_or sums.old i 0 - get_or line.now i 0) 0 (length line.now) sums.old sums.new }
 {
-    for i in 0..n {
-        sums[i] = sums[i] - wide(buf[p + i]);
+    for (i, x) in line.iter().enumerate() {
+        sums[i] -= u16::from(*x);
     }
 }
 
-// Stores the sums, each divided by size, as the line at r.
-pub fn means(buf: &mut [u8], r: usize, sums: &[u16], n: usize, mul: u16, shift: u16, size: usize)
-    requires n_in_bounds { (r + n ≤ length buf.old) × (n ≤ length sums.now) × Divides mul shift size }
-    requires by_index { (i : ℕ) → i < n → get_or sums.now i 0 ≤ 255 * size + size / 2 }
-    ensures { Filled (λ j. get_or sums.now (j - r) 0 / size) r (r + n) buf.old buf.new }
+// Stores the sums, each divided by size, as a line.
+pub fn means(line: &mut [u8], sums: &[u16], by: Reciprocal, size: usize)
+    requires n_in_bounds { (length line.old ≤ length sums.now) × Divides by.mul by.shift size }
+    requires by_index { (i : ℕ) → i < length line.old → get_or sums.now i 0 ≤ 255 * size + size / 2 }
+    ensures { Filled (λ i. get_or sums.now i 0 / size) 0 (length line.old) line.old line.new }
 {
-    for i in 0..n {
-        buf[r + i] = mean(sums[i], mul, shift, size);
+    for (i, x) in line.iter_mut().enumerate() {
+        *x = mean(sums[i], by, size);
     }
 }
 
@@ -53,19 +47,18 @@ pub fn slide_line(
     r: usize,
     sums: &mut [u16],
     n: usize,
-    mul: u16,
-    shift: u16,
+    by: Reciprocal,
     size: usize,
 )
-    requires n_in_bounds { (p + n ≤ length buf.old) × (q + n ≤ length buf.old) × (r + n ≤ length buf.old) × (n ≤ length sums.old) × Divides mul shift size }
+    requires n_in_bounds { (p + n ≤ length buf.old) × (q + n ≤ length buf.old) × (r + n ≤ length buf.old) × (n ≤ length sums.old)
+        × Divides by.mul by.shift size }
     requires apart { Apart p n r n × Apart q n r n }
     requires slides { Slides sums.old buf.old p q n size }
     ensures filled { Filled (slid sums.old buf.old p q) 0 n sums.old sums.new }
     ensures filled_2 { Filled (λ j. slid sums.old buf.old p q (j - r) / size) r (r + n) buf.old buf.new }
 {
-    for i in 0..n {
-        let t = sums[i] + wide(buf[p + i]) - wide(buf[q + i]);
-        sums[i] = t;
-        buf[r + i] = mean(t, mul, shift, size);
+    for (i, sum) in sums[..n].iter_mut().enumerate() {
+        *sum = *sum + u16::from(buf[p + i]) - u16::from(buf[q + i]);
+        buf[r + i] = mean(*sum, by, size);
     }
 }

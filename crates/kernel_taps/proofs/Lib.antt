@@ -1,4 +1,5 @@
 -- Laws that the proofs of the kernel cite.
+pub mod FilledFronts
 pub mod RowTotals
 pub mod DoubleSums
 pub mod Reciprocals

@@ -1,45 +1,36 @@
 -- A reciprocal that is rounded up divides, where a test says that the rounding does not count. Assumes nothing.
-use Prim.Native.Nat.{ℕ, ◌+◌, ◌-◌, ◌*◌, ◌/◌, ◌≤◌, ◌<◌, ◌^◌}
-use mathlib.Core.Path.{◌≡◌, ap, ◌∙◌}
-use mathlib.Core.Logic.{⊎_elim}
-use native.Mathlib.Nat.{mul_assoc, mul-add, mul-le-mul_right, lt_of_mul-lt-mul_right, div-div-eq-div-mul}
-use native.Mathlib.Omega.{arith}
+use Rattle.std.proofs.Common.{ℕ, ◌+◌, ◌-◌, ◌*◌, ◌≤◌, ◌<◌, ◌^◌, ◌≡◌, ap, ◌∙◌, arith, ⊎_elim}
+use native.Mathlib.Nat.{mul_assoc, mul-add, mul-le-mul, mul-le-mul_right, div-div-eq-div-mul}
 use lib.Pow.{pow_mono}
 use Rattle.window.proofs.Numbers.{quotient}
 use Rattle.window.proofs.Store.{lt-or-le}
-use Rattle.kernel_sums.specs.Reciprocal.{Divides}
+use Rattle.kernel_sums.specs.Reciprocal.{Divides, LargestBelow, ceiling}
 use Rattle.kernel_sums.proofs.ReciprocalDivides.{up_least, up-most}
 
--- power is the largest power of two below size
-module _ (power shift size mul : ℕ) (is : power ≡ 2 ^ shift) (below : power < size) (most : size ≤ power * 2) (limit : size ≤ 257)
-    (mul_is : mul ≡ (power * 65536 + (size - 1)) / size) where
-  pub mul-least : power * 65536 ≤ mul * size
-  mul-least = rw mul_is (up_least (power * 65536) size (omega arith))
+module _ (shift size mul : ℕ) (largest : LargestBelow shift size) (limit : size ≤ 257) (mul_is : mul ≡ ceiling (2 ^ shift * 65536) size) where
+  pub least : 2 ^ shift * 65536 ≤ mul * size
+  least = rw mul_is (up_least (2 ^ shift * 65536) size (omega (arith, largest.below)))
 
-  pub mul_most : mul * size < power * 65536 + size
-  mul_most = rw mul_is (up-most (power * 65536) size (omega arith))
+  most : mul * size < 2 ^ shift * 65536 + size
+  most = rw mul_is (up-most (2 ^ shift * 65536) size (omega (arith, largest.below)))
 
-  pub fits : mul < 65536
-  fits = lt_of_mul-lt-mul_right size (omega (arith, mul_most))
+  pub small : shift < 16
+  small = ⊎_elim (λ l. l) (λ l. let big : 2 ^ 16 ≤ 2 ^ shift = pow_mono l in absurd (omega (arith, largest.below))) (lt-or-le shift 16)
 
-  small : shift < 16
-  small = ⊎_elim (λ l. l) (λ l. let big : 2 ^ 16 ≤ 2 ^ shift = pow_mono l in absurd (omega arith)) (lt-or-le shift 16)
+  -- how far the reciprocal is off, over all the sums
+  pub excess : 256 * size * (mul * size - 2 ^ shift * 65536) ≤ 16842752
+  excess = mul-le-mul {n₁ = 256 * size} {m₁ = mul * size - 2 ^ shift * 65536} {n₂ = 65792} {m₂ = 256} (omega arith) (omega (arith, most))
 
-  module _ (test : 256 * size * (mul * size - power * 65536) < power * 65536) where
-    rest : (t : ℕ) → t ≤ 255 * size + size / 2 → t * (mul * size - power * 65536) < 65536 * 2 ^ shift
-    rest t le =
+  pub divides : 256 * size * (mul * size - 2 ^ shift * 65536) < 2 ^ shift * 65536 → Divides mul shift size
+  divides test = record {
+    exact = λ t le.
         let l : t ≤ 256 * size = omega arith in
-        omega (arith, test, mul-le-mul_right (mul * size - power * 65536) l)
-
-    pub divides : Divides mul shift size
-    divides = record {
-      exact = λ t le.
-          div-div-eq-div-mul (t * mul) 65536 (2 ^ shift)
-          ∙ quotient (t * mul) t size (65536 * 2 ^ shift) (t * (mul * size - power * 65536)) (omega arith)
-          (mul_assoc t mul size
-          ∙ ap (λ (x : ℕ). t * x) (omega (arith, mul-least))
-          ∙ mul-add t (65536 * 2 ^ shift) (mul * size - power * 65536))
-          (rest t le);
-      small = small;
-      some = omega arith;
-    }
+        div-div-eq-div-mul (t * mul) 65536 (2 ^ shift)
+        ∙ quotient (t * mul) t size (65536 * 2 ^ shift) (t * (mul * size - 2 ^ shift * 65536)) (omega (arith, largest.below))
+        (mul_assoc t mul size
+        ∙ ap (λ (x : ℕ). t * x) (omega (arith, least))
+        ∙ mul-add t (65536 * 2 ^ shift) (mul * size - 2 ^ shift * 65536))
+        (omega (arith, test, mul-le-mul_right (mul * size - 2 ^ shift * 65536) l));
+    small = small;
+    some = omega (arith, largest.below);
+  }

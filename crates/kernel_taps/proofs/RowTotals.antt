@@ -1,37 +1,39 @@
--- The sums that the code writes out are those of the definition. Assumes nothing.
-use Prim.Native.Nat.{ℕ, ◌+◌, ◌*◌}
-use mathlib.Core.Path.{◌≡◌, ap₂}
-use mathlib.Core.List.{List}
-use native.Mathlib.Omega.{arith}
-use lib.ListN.{get_or}
+-- The sums of a lane, one weight or one line more at a time. Assumes nothing.
+use Rattle.std.proofs.Common.{ℕ, ◌+◌, ◌*◌, ◌≤◌, ◌<◌, List, get_or, ◌≡◌, ap, ap₂, sym, refl, ◌∙◌, arith}
+use native.Mathlib.Nat.{mul-le-mul}
 use Rattle.window.specs.Window.{fold}
+use Rattle.kernel_lines.specs.Lines.{line_bytes}
+use Rattle.kernel_sums.proofs.SlidingSums.{fold_more}
 use Rattle.kernel_taps.specs.Lanes.{row_total, total}
 
-module _ (w lines : List ℕ) (first at : ℕ) where
-  first-tap : get_or w (first + 0) 0 * get_or lines (at + 0) 0 ≡ get_or w first 0 * get_or lines at 0
-  first-tap = ap₂ (λ (x y : ℕ). get_or w x 0 * get_or lines y 0) (omega arith) (omega arith)
+-- a weight by a byte
+pub product_le : (w x : ℕ) → w < 65536 → x < 256 → w * x ≤ 16711425
+product_le w x a b = mul-le-mul {n₁ = w} {m₁ = x} {n₂ = 65535} {m₂ = 255} (omega arith) (omega arith)
 
-  pub row-three : (a b c : ℕ) → a ≡ get_or w first 0 * get_or lines at 0 → b ≡ get_or w (first + 1) 0 * get_or lines (at + 4) 0
-      → c ≡ get_or w (first + 2) 0 * get_or lines (at + 8) 0 → a + b + c ≡ row_total 3 w first lines at
-  unfolding row_total fold
-  row-three a b c ea eb ec = omega (arith, first-tap)
+pub row-none : (w : List ℕ) (first : ℕ) (lines : List ℕ) (at : ℕ) → 0 ≡ row_total 0 w first lines at
+unfolding row_total fold
+row-none w first lines at = refl
 
-  pub row-five : (a b c d e : ℕ) → a ≡ get_or w first 0 * get_or lines at 0 → b ≡ get_or w (first + 1) 0 * get_or lines (at + 4) 0
-      → c ≡ get_or w (first + 2) 0 * get_or lines (at + 8) 0 → d ≡ get_or w (first + 3) 0 * get_or lines (at + 12) 0
-      → e ≡ get_or w (first + 4) 0 * get_or lines (at + 16) 0 → a + b + c + d + e ≡ row_total 5 w first lines at
-  unfolding row_total fold
-  row-five a b c d e ea eb ec ed ee = omega (arith, first-tap)
+pub row-more : (n s : ℕ) (w : List ℕ) (first : ℕ) (lines : List ℕ) (at : ℕ) → s ≡ row_total n w first lines at
+    → s + get_or w (first + n) 0 * get_or lines (at + 4 * n) 0 ≡ row_total (n + 1) w first lines at
+unfolding row_total
+row-more n s w first lines at e =
+    ap (λ (x : ℕ). x + get_or w (first + n) 0 * get_or lines (at + 4 * n) 0) e
+    ∙ sym (fold_more (λ j. get_or w (first + j) 0 * get_or lines (at + 4 * j) 0) n)
 
-module _ (w lines : List ℕ) (at : ℕ) where
-  first-row : (n : ℕ) → row_total n w 0 lines (at + 0) ≡ row_total n w 0 lines at
-  first-row n = let e : at + 0 ≡ at = omega arith in rw e
+-- the first m of the lines
+abbrev pub lines_total : ℕ → ℕ → List ℕ → List ℕ → ℕ → ℕ
+lines_total m n w lines at = fold ◌+◌ 0 m (λ i. row_total n w (5 * i) lines (at + i * line_bytes))
 
-  pub total-three : (a b c : ℕ) → a ≡ row_total 3 w 0 lines at → b ≡ row_total 3 w 5 lines (at + 4112) → c ≡ row_total 3 w 10 lines (at + 8224)
-      → a + b + c ≡ total 3 w lines at
-  unfolding total fold
-  total-three a b c ea eb ec = omega (arith, first-row 3)
+pub lines-none : (n : ℕ) (w lines : List ℕ) (at : ℕ) → 0 ≡ lines_total 0 n w lines at
+unfolding fold
+lines-none n w lines at = refl
 
-  pub total-five : (a b c d e : ℕ) → a ≡ row_total 5 w 0 lines at → b ≡ row_total 5 w 5 lines (at + 4112) → c ≡ row_total 5 w 10 lines (at + 8224)
-      → d ≡ row_total 5 w 15 lines (at + 12336) → e ≡ row_total 5 w 20 lines (at + 16448) → a + b + c + d + e ≡ total 5 w lines at
-  unfolding total fold
-  total-five a b c d e ea eb ec ed ee = omega (arith, first-row 5)
+pub lines-more : (m n s r : ℕ) (w lines : List ℕ) (at : ℕ) → s ≡ lines_total m n w lines at
+    → r ≡ row_total n w (5 * m) lines (at + m * line_bytes) → s + r ≡ lines_total (m + 1) n w lines at
+lines-more m n s r w lines at e h =
+    ap₂ ◌+◌ e h ∙ sym (fold_more (λ i. row_total n w (5 * i) lines (at + i * line_bytes)) m)
+
+pub lines-all : (n s : ℕ) (w lines : List ℕ) (at : ℕ) → s ≡ lines_total n n w lines at → s ≡ total n w lines at
+unfolding total
+lines-all n s w lines at e = e

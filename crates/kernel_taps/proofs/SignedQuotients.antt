@@ -14,7 +14,7 @@ use Rattle.pixel.specs.Whole.{◌÷◌, limited, nearest_up}
 use Rattle.pixel.specs.Convolve.{quotient}
 use Rattle.pixel.proofs.SignedSums.{Diff, diff-add, diff-by, diff-plus, diff-limited}
 use Rattle.kernel_taps.specs.Taps.{Scaled}
-use Rattle.kernel_taps.proofs.WholeTaps.{diff_is}
+use Rattle.kernel_lines.proofs.Divisors.{diff_is}
 
 -- limited before the division, or behind it
 pub min-div : (x size : ℕ) → 0 < size → min x (255 * size) / size ≡ min (x / size) 255

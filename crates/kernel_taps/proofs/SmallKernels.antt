@@ -7,7 +7,6 @@ use native.Mathlib.Nat.{add-mul, mul_assoc, mul_comm, mul-le-mul_left, zero-div,
 use native.Mathlib.Omega.{arith}
 use lib.IntN.{ℤ, pos}
 use lib.ListN.{get_or}
-use Rattle.window.specs.Store.{Filled}
 use Rattle.number.specs.Number.{value}
 use Rattle.number.specs.declared.Fixed.{Fixed}
 use Rattle.pixel.specs.declared.Convolution.{Convolution}
@@ -15,10 +14,9 @@ use Rattle.pixel.specs.Convolve.{divisor_of, bias_of, quotient}
 use Rattle.pixel.proofs.SignedSums.{Diff}
 use Rattle.kernel_lines.specs.Lines.{line_bytes, line_byte}
 use Rattle.kernel_lines.specs.Convolved.{value_at, lane_sum, lane_byte, own_alpha}
-use Rattle.kernel_sums.proofs.FilledRanges.{filled-as}
-use Rattle.kernel_taps.specs.declared.lanes.Finish.{Finish}
-use Rattle.kernel_taps.specs.Lanes.{row_total, total, FinishOf, finished, tapped}
-use Rattle.kernel_taps.specs.Taps.{nothing, turned, exchanged, Scaled, Tap, TapsOf, Fits, Prepares}
+use Rattle.kernel_taps.specs.declared.finish.Finish.{Finish}
+use Rattle.kernel_taps.specs.Lanes.{row_total, total, FinishOf, finished}
+use Rattle.kernel_taps.specs.Taps.{nothing, turned, exchanged, Scaled, Tap, TapsOf, Fits}
 use Rattle.kernel_taps.proofs.DoubleSums.{nest, nest-same, nest-plus, nest-times, nest-most, nest-pad, nest-flat}
 use Rattle.kernel_taps.proofs.SignedQuotients.{min-div, scaled-quotient}
 use Rattle.kernel_taps.proofs.TurnedLanes.{turned-row, turned-column, lane-diff}
@@ -146,11 +144,11 @@ module _ (k : Convolution) (v : List Fixed) (negative : Bool) (unit : ℕ) (weig
     signed_units true x y ex ey = rw (← ex, ← ey) (lane-diff k v n lines b lc lr)
     signed_units false x y ex ey = rw (← ex, ← ey) (lane-diff k v n lines b lc lr)
 
-    pub finished-is : (f : Finish) (size mul shift : ℕ) (d : Fixed) → FinishOf lift size mul shift f → 0 < unit → 0 < size
+    pub finished-is : (f : Finish) (size : ℕ) (d : Fixed) → FinishOf lift size f → 0 < unit → 0 < size
         → value d ≡ divisor_of k (value_at v) → Scaled d negative unit size → bias_of k (value_at v) ≡ pos 0 → 255 * most + size / 2 ≤ 65535
         → finished f (total n weights lines b) ≡ lane_byte k v lines b
     unfolding finished lane_byte
-    finished-is f size mul shift d O some sized e s bias fits =
+    finished-is f size d O some sized e s bias fits =
         let high : ℕ = nest n (λ i j. up i j * byte i j) in
         let low : ℕ = nest n (λ i j. down i j * byte i j) in
         let x : (total n weights lines b + f.base) % 65536 - f.lift ≡ high + size / 2 - low =
@@ -159,16 +157,9 @@ module _ (k : Convolution) (v : List Fixed) (negative : Bool) (unit : ℕ) (weig
         (O.lift ∙ ap (λ (y : ℕ). 255 * y) lift-is)
         ∙ wrapped-finish (total n weights lines b) high low _ (nest n up) (nest n down) (size / 2) wrapped-total (bounded up) (bounded down)
         (rw most-is at fits) in
-        ap₂ (λ (q m : ℕ). min q m / f.size) x O.most
+        ap₂ (λ (q m : ℕ). min q m / f.size) x (f.most_is ∙ ap (λ (m : ℕ). 255 * m) O.size)
         ∙ ap (λ (m : ℕ). min (high + size / 2 - low) (255 * size) / m) O.size
         ∙ min-div (high + size / 2 - low) size sized
         ∙ sym (scaled-quotient unit size high low (own_alpha k lines (b / 4)) some (lane_sum k v lines b) (divisor_of k (value_at v)) d negative sized e s
         (signed_units negative _ _ above-units below-units))
         ∙ ap (λ (z : ℤ). quotient (lane_sum k v lines b) z (own_alpha k lines (b / 4)) (divisor_of k (value_at v))) (sym bias)
-
--- the bytes that were filled are those of the definition
-pub filled-lane : (n : ℕ) (k : Convolution) (v : List Fixed) (weights : List ℕ) (f : Finish) (lines : List ℕ) (at to : ℕ) (d d' : List ℕ)
-    → Prepares k v weights f → n ≤ 5 → k.columns ≤ n → k.rows ≤ n → Fits lines → Filled (λ b. tapped n weights f lines (at + b)) 0 to d d'
-    → Filled (λ b. lane_byte k v lines (at + b)) 0 to d d'
-filled-lane n k v weights f lines at to d d' P few lc lr fit =
-    filled-as (λ b. tapped n weights f lines (at + b)) (λ b. lane_byte k v lines (at + b)) 0 to d d' (λ b lo hi. P.same n lines (at + b) few lc lr fit)

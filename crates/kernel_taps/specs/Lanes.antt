@@ -2,8 +2,7 @@
 use Rattle.std.specs.Prelude.{ℕ, ◌+◌, ◌-◌, ◌*◌, ◌/◌, ◌%◌, min, ◌≡◌, List, get_or}
 use Rattle.window.specs.Window.{fold}
 use Rattle.kernel_lines.specs.Lines.{line_bytes}
-use Rattle.kernel_sums.specs.Reciprocal.{Divides}
-use Rattle.kernel_taps.specs.declared.lanes.Finish.{Finish}
+use Rattle.kernel_taps.specs.declared.finish.Finish.{Finish}
 
 -- n weights from `first` on over the bytes four by four from `at` on
 unfoldable pub row_total : ℕ → List ℕ → ℕ → List ℕ → ℕ → ℕ
@@ -13,10 +12,6 @@ row_total n w first lines at = fold ◌+◌ 0 n (λ j. get_or w (first + j) 0 * 
 unfoldable pub total : ℕ → List ℕ → List ℕ → ℕ → ℕ
 total n w lines at = fold ◌+◌ 0 n (λ i. row_total n w (5 * i) lines (at + i * line_bytes))
 
-pub record Finishes (f : Finish) : Type 0 where
-  pub divides : Divides f.mul f.shift f.size
-  pub most : f.most ≡ 255 * f.size
-
 unfoldable pub finished : Finish → ℕ → ℕ
 finished f sum = min ((sum + f.base) % 65536 - f.lift) f.most / f.size
 
@@ -24,10 +19,7 @@ abbrev pub tapped : ℕ → List ℕ → Finish → List ℕ → ℕ → ℕ
 tapped n w f lines at = finished f (total n w lines at)
 
 -- how a sum is brought to a byte: down is what is below zero in the kernel
-pub record FinishOf (down n m s : ℕ) (f : Finish) : Type 0 where
+pub record FinishOf (down n : ℕ) (f : Finish) : Type 0 where
   pub base : f.base ≡ 255 * down + n / 2
   pub lift : f.lift ≡ 255 * down
-  pub most : f.most ≡ 255 * n
-  pub mul : f.mul ≡ m
-  pub shift : f.shift ≡ s
   pub size : f.size ≡ n

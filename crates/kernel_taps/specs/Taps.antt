@@ -4,8 +4,8 @@ use Rattle.window.specs.Window.{fold}
 use Rattle.number.specs.declared.Fixed.{Fixed}
 use Rattle.pixel.specs.declared.Convolution.{Convolution}
 use Rattle.kernel_lines.specs.Convolved.{value_at, lane_byte}
-use Rattle.kernel_taps.specs.declared.lanes.Finish.{Finish}
-use Rattle.kernel_taps.specs.Lanes.{Finishes, tapped}
+use Rattle.kernel_taps.specs.declared.finish.Finish.{Finish}
+use Rattle.kernel_taps.specs.Lanes.{tapped}
 
 abbrev pub nothing : Fixed
 nothing = record { above = 0; below = 0 }
@@ -50,5 +50,4 @@ Fits lines = (i : ℕ) → get_or lines i 0 < 256
 
 -- a row of the results can be made from the weights
 pub record Prepares (k : Convolution) (v : List Fixed) (weights : List ℕ) (f : Finish) : Type 0 where
-  pub finishes : Finishes f
   pub same : (n : ℕ) (lines : List ℕ) (b : ℕ) → n ≤ 5 → k.columns ≤ n → k.rows ≤ n → Fits lines → tapped n weights f lines b ≡ lane_byte k v lines b

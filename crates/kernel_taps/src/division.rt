@@ -1,46 +1,18 @@
-ghost use Rattle.std.specs.Prelude.{◌≡◌, true, ◌+◌, ◌-◌, ◌*◌, ◌≤◌, ◌<◌};
+ghost use Rattle.std.specs.Prelude.{◌≤◌, IfSome};
 ghost use Rattle.kernel_sums.specs.Reciprocal.{Divides};
 
-// The reciprocal of a size, if it divides every sum that can come.
-#[derive(Clone, Copy)]
-pub struct Division {
-    pub good: bool,
-    pub mul: u16,
-    pub shift: u16,
-}
+use kernel_sums::reciprocal::{Reciprocal, candidate};
 
-// How far a reciprocal that was rounded up is off, over all the sums.
-fn excess(rest: usize, size: usize) -> usize
-    requires { (rest < 257) × (size ≤ 257) }
-    ensures { result ≡ 256 * size * rest }
-{
-    256 * size * rest
-}
-
-// mul·size less what it should be.
-fn rest(mul: usize, size: usize, whole: usize) -> usize
-    requires { (mul < 65536) × (size ≤ 257) × (whole ≤ mul * size) }
-    ensures { result ≡ mul * size - whole }
-{
-    mul * size - whole
-}
-
-// 65536·2^shift / size rounded up, where 2^shift is the largest power below size.
-pub fn division_by(size: usize) -> Division
+// The reciprocal of a size, if it divides every sum that can come: how far it is off, rounded up, counts in none.
+pub fn division_by(size: usize) -> Option<Reciprocal>
     requires { (2 ≤ size) × (size ≤ 257) }
-    ensures { result.good ≡ true → Divides result.mul result.shift size }
+    ensures { IfSome result (λ by. Divides by.mul by.shift size) }
 {
-    let mut power: usize = 1;
-    let mut shift: u16 = 0;
-    while power * 2 < size {
-        power = power * 2;
-        shift += 1;
+    let by = candidate(size);
+    let whole = 65536usize << by.shift;
+    let off = usize::from(by.mul) * size - whole;
+    if 256 * size * off < whole {
+        return Some(by);
     }
-    let mul = (power * 65536 + (size - 1)) / size;
-    let off = excess(rest(mul, size, power * 65536), size);
-    Division {
-        good: off < power * 65536,
-        mul: mul as u16,
-        shift,
-    }
+    None
 }

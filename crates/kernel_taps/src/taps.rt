@@ -1,43 +1,30 @@
-ghost use Rattle.std.specs.Prelude.{◌≡◌, true, ◌+◌, ◌%◌, ◌≤◌, ◌<◌};
-ghost use Rattle.kernel_lines.specs.Convolved.{Convolves, value_at};
-ghost use Rattle.kernel_taps.specs.Taps.{turned, exchanged, Whole, TapsOf};
+ghost use Rattle.std.specs.Prelude.{◌≡◌, ◌%◌, ◌/◌, ◌≤◌, ◌<◌, IfSome};
+ghost use Rattle.kernel_taps.specs.Taps.{turned, exchanged, TapsOf};
 
+use kernel_lines::Kernel;
 use number::Fixed;
-use pixel::Convolution;
 
 // The weights of a kernel, five a row; what is below zero in them, and all of them, added up.
 #[derive(Clone, Copy)]
 pub struct Taps {
-    pub good: bool,
     pub weights: [u16; 25],
     pub lift: u64,
     pub most: u64,
 }
 
-// Value i, and 0 behind the last.
-pub fn number_at(values: [Fixed; 64], i: usize) -> Fixed
-    ensures { result ≡ value_at values i }
-{
-    if i < 64 {
-        return values[i];
-    }
-    Fixed { above: 0, below: 0 }
-}
-
 // The value that goes with neighbour j of line i: the kernel is turned half round.
-fn turned_at(convolution: Convolution, values: [Fixed; 64], i: usize, j: usize) -> Fixed
-    requires { Convolves convolution values }
-    ensures { result ≡ turned convolution values i j }
+#[tactic(auto, unfolding(crate::specs::Taps::turned))]
+fn turned_at(kernel: &Kernel, i: usize, j: usize) -> Fixed
+    ensures { result ≡ turned kernel.now.convolution kernel.now.values i j }
 {
-    if convolution.rows <= i {
+    let rows = kernel.convolution.rows;
+    let columns = kernel.convolution.columns;
+    if rows <= i || columns <= j {
         return Fixed { above: 0, below: 0 };
     }
-    if convolution.columns <= j {
-        return Fixed { above: 0, below: 0 };
-    }
-    let row = convolution.rows - 1 - i;
-    let column = convolution.columns - 1 - j;
-    number_at(values, row * convolution.columns + column)
+    let row = rows - 1 - i;
+    let column = columns - 1 - j;
+    kernel.values[row * columns + column]
 }
 
 // A divisor below zero exchanges what is above zero and what is below it.
@@ -53,63 +40,38 @@ pub fn exchange(negative: bool, u: Fixed) -> Fixed
     u
 }
 
-// Whether both parts are few whole multiples of the unit.
-fn is_whole(u: Fixed, unit: u64) -> bool
+// How many units a part has, if they are whole and few.
+fn units(part: u64, unit: u64) -> Option<u16>
     requires { 0 < unit }
-    ensures { result ≡ true → Whole unit u }
+    ensures { IfSome result (λ n. (part % unit ≡ 0) × (n ≡ part / unit) × (n ≤ 257)) }
 {
-    if u.above % unit != 0 {
-        return false;
+    let n = part / unit;
+    if part % unit != 0 || n > 257 {
+        return None;
     }
-    if u.below % unit != 0 {
-        return false;
-    }
-    if u.above / unit > 257 {
-        return false;
-    }
-    u.below / unit <= 257
+    Some(n as u16)
 }
 
-// a - b, and 65,536 more where b is larger.
-fn wrapped(a: u64, b: u64) -> u16
-    requires { (a ≤ 257) × (b ≤ 257) }
-    ensures { (result + b) % 65536 ≡ a }
-{
-    if b <= a {
-        return (a - b) as u16;
-    }
-    (65536 + a - b) as u16
-}
-
-// The weights as multiples of the unit.
-pub fn taps_of(convolution: Convolution, values: [Fixed; 64], negative: bool, unit: u64) -> Taps
-    requires { Convolves convolution values × (0 < unit) }
-    ensures taps_of { result.good ≡ true → TapsOf convolution values negative unit result.weights result.lift result.most }
-    ensures lift_le_most { (result.lift ≤ result.most) × (result.most ≤ 12850) }
+// The weights as multiples of the unit; one below zero counts from 65,536 down.
+pub fn taps_of(kernel: &Kernel, negative: bool, unit: u64) -> Option<Taps>
+    requires { 0 < unit }
+    ensures taps_of { IfSome result (λ t. TapsOf kernel.now.convolution kernel.now.values negative unit t.weights t.lift t.most) }
+    ensures lift_le_most { IfSome result (λ t. (t.lift ≤ t.most) × (t.most ≤ 12850)) }
 {
     let mut weights = [0u16; 25];
     let mut lift: u64 = 0;
     let mut most: u64 = 0;
-    for t in 0usize..25 {
-        let u = exchange(negative, turned_at(convolution, values, t / 5, t % 5));
-        if !is_whole(u, unit) {
-            return Taps {
-                good: false,
-                weights,
-                lift,
-                most,
-            };
-        }
-        let a = u.above / unit;
-        let b = u.below / unit;
-        weights[t] = wrapped(a, b);
-        lift += b;
-        most += a + b;
+    for (t, weight) in weights.iter_mut().enumerate() {
+        let u = exchange(negative, turned_at(kernel, t / 5, t % 5));
+        let above = units(u.above, unit)?;
+        let below = units(u.below, unit)?;
+        *weight = above.wrapping_sub(below);
+        lift += u64::from(below);
+        most += u64::from(above) + u64::from(below);
     }
-    Taps {
-        good: true,
+    Some(Taps {
         weights,
         lift,
         most,
-    }
+    })
 }

@@ -10,19 +10,13 @@ use pixel::Operator;
 fn operator_at(op: u8) -> Operator
     ensures { result ≡ operator_at op }
 {
-    if op == 0 {
-        return Operator::Over;
+    match op {
+        0 => Operator::Over,
+        1 => Operator::In,
+        2 => Operator::Out,
+        3 => Operator::Atop,
+        _ => Operator::Xor,
     }
-    if op == 1 {
-        return Operator::In;
-    }
-    if op == 2 {
-        return Operator::Out;
-    }
-    if op == 3 {
-        return Operator::Atop;
-    }
-    Operator::Xor
 }
 
 #[unsafe(no_mangle)]

@@ -6,6 +6,7 @@ ghost use Rattle.kernel_lines.specs.Lines.{all_lines};
 ghost use Rattle.kernel_lines.specs.Convolved.{Convolves, line_pixel};
 ghost use Rattle.kernels.specs.PlainNumbers.{convolution, paired_values};
 
+use kernel_lines::Kernel;
 use number::Fixed;
 use pixel::{Convolution, Edge};
 
@@ -34,10 +35,9 @@ fn values_of(values: &[u64]) -> [Fixed; 64]
     requires { length values.now ≡ 128 }
     ensures { result ≡ paired_values values.now }
 {
-    let zero = Fixed { above: 0, below: 0 };
-    let mut paired = [zero; 64];
-    for i in 0usize..64 {
-        paired[i] = Fixed {
+    let mut paired = [Fixed::ZERO; 64];
+    for (i, pair) in paired.iter_mut().enumerate() {
+        *pair = Fixed {
             above: values[2 * i],
             below: values[2 * i + 1],
         };
@@ -65,6 +65,11 @@ pub extern "C" fn twillgoose_kernel_convolve_row(
         (λ x. line_pixel (convolution columns rows divided column row preserve) (paired_values values.now) lines.now (left + x))
         0 0 count dst.old dst.new }
 {
-    let fields = convolution_of(columns, rows, divided, column, row, preserve);
-    kernel_convolve::convolve_row(fields, values_of(values), lines, left, count, dst);
+    let convolution = convolution_of(columns, rows, divided, column, row, preserve);
+    let values = values_of(values);
+    let kernel = Kernel {
+        convolution,
+        values,
+    };
+    kernel_convolve::convolve_row(&kernel, lines, left, count, dst);
 }

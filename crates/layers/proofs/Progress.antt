@@ -5,19 +5,19 @@ use mathlib.Core.Bool.{true, false}
 use mathlib.Core.List.{List}
 use native.Mathlib.Omega.{arith}
 use lib.ListN.{length, replicate}
+use Rattle.pixel.specs.declared.Space.TheVariants.{Srgb}
 use Rattle.filter.specs.declared.Region.{Region}
 use Rattle.filter.specs.declared.Step.{Step}
 use Rattle.filter.specs.declared.Sheet.{Sheet}
 use Rattle.filter.specs.declared.Call.{Call}
 use Rattle.filter.specs.declared.Call.TheVariants as C
-use Rattle.filter.specs.declared.Answer.{Answer}
 use Rattle.filter.specs.Rect.{canvas_of, bounds_of, empty}
 use Rattle.filter.specs.Layers.{damage, damages}
 use Rattle.filter.specs.Steps.{step_at}
 use Rattle.filter.specs.Sheets.{space_of, effects_of}
 use Rattle.filter.specs.Bytes.{Holds}
 use Rattle.filter.proofs.SeenInSpaces.{damage-spaces}
-use Rattle.filter.specs.Answers.{accepted?}
+use Rattle.filter.specs.Answers.{Answer, accepted?}
 use Rattle.filter.specs.Accepted.{Within, OnCanvas}
 use Rattle.filter.specs.Limits.{most_steps}
 use Rattle.damage.specs.declared.SoFar.{SoFar}
@@ -45,10 +45,10 @@ module _ (sheet : Sheet) (steps : List Step) (src ws scr : List ℕ) where
 
   -- of an accepted call: what stands in the buffers, the rectangles so far, and the spaces
   unfoldable pub Stands : Call → ℕ → List ℕ → List ℕ → SoFar → Type 0
-  Stands C.Render n d s z = Rendering w h steps count src ws scr n d s × (z.count ≡ 0) × SpacesKept steps n z.linear
-  Stands (C.Redraw g) n d s z = Redrawing w h steps count (bounds_of g) src ws scr n d s × Going w h steps (bounds_of g) n z.rects z.count × SpacesKept steps n z.linear
+  Stands C.Render n d s z = Rendering w h steps count src ws scr n d s × (z.count ≡ 0) × SpacesKept steps n z.spaces
+  Stands (C.Redraw g) n d s z = Redrawing w h steps count (bounds_of g) src ws scr n d s × Going w h steps (bounds_of g) n z.rects z.count × SpacesKept steps n z.spaces
 
-  stands-none : (call : Call) (z : SoFar) → z.rects ≡ replicate most_steps empty → z.count ≡ 0 → z.linear ≡ replicate most_steps false → Stands call 0 ws scr z
+  stands-none : (call : Call) (z : SoFar) → z.rects ≡ replicate most_steps empty → z.count ≡ 0 → z.spaces ≡ replicate most_steps Srgb → Stands call 0 ws scr z
   unfolding Stands
   stands-none C.Render z a b c = (rendering-none w h steps count src ws scr, b, rw c (spaces-kept-none steps))
   stands-none (C.Redraw g) z a b c = (redrawing-none w h steps count (bounds_of g) src ws scr, rw (a, b) (going-none w h steps (bounds_of g) empty refl), rw c (spaces-kept-none steps))
@@ -71,19 +71,19 @@ module _ (sheet : Sheet) (steps : List Step) (src ws scr : List ℕ) where
         → CallStepDrawn call sheet n (step_at steps n) src d d' z z' → length s' ≡ length s → Stands call (n + 1) d' s' z'
     unfolding Stands CallStepDrawn
     stands-more C.Render R G d' s' z' D e = (
-      rendering-more w h steps count src ws scr R.ready n l d s G.0 (step_at steps n) refl (spaces_by z.linear) (kept-spaces steps n z G.2) d' s' D.layer e,
+      rendering-more w h steps count src ws scr R.ready n l d s G.0 (step_at steps n) refl (spaces_by z.spaces) (kept-spaces steps n z G.2) d' s' D.layer e,
       D.count ∙ G.1,
-      spaces-kept-more steps n z.linear z'.linear (omega (arith, R.ready.sheet.few)) G.2 D.spaces,
+      spaces-kept-more steps n z.spaces z'.spaces (omega (arith, R.ready.sheet.few)) G.2 D.spaces,
     )
     stands-more (C.Redraw g) R G d' s' z' D e = (
-      redrawing-more w h steps count (bounds_of g) src ws scr R.ready n l d s G.0 (step_at steps n) refl (spaces_by z.linear) (kept-spaces steps n z G.2) (step_rect w h g (step_at steps n) z) rect-is d' s' D.layer e,
-      rw (D.rects, D.count) (going_more w h steps (bounds_of g) n z.rects z.count G.1 (omega (arith, R.ready.sheet.few)) (spaces_by z.linear) (step_at steps n) refl _ refl _ refl D.small),
-      spaces-kept-more steps n z.linear z'.linear (omega (arith, R.ready.sheet.few)) G.2 D.spaces,
+      redrawing-more w h steps count (bounds_of g) src ws scr R.ready n l d s G.0 (step_at steps n) refl (spaces_by z.spaces) (kept-spaces steps n z G.2) (step_rect w h g (step_at steps n) z) rect-is d' s' D.layer e,
+      rw (D.rects, D.count) (going_more w h steps (bounds_of g) n z.rects z.count G.1 (omega (arith, R.ready.sheet.few)) (spaces_by z.spaces) (step_at steps n) refl _ refl _ refl D.small),
+      spaces-kept-more steps n z.spaces z'.spaces (omega (arith, R.ready.sheet.few)) G.2 D.spaces,
     )
       where
         rect-is : step_rect w h g (step_at steps n) z ≡ damage (canvas_of w h) (effects_of w h steps n) (damages (canvas_of w h) (effects_of w h steps) (bounds_of g) n)
         rect-is =
-            damage-spaces w h (spaces_by z.linear) (space_of steps) (step_at steps n) _ ∙ ap (damage (canvas_of w h) (effects_of w h steps n)) (fun_ext G.1.each)
+            damage-spaces w h (spaces_by z.spaces) (space_of steps) (step_at steps n) _ ∙ ap (damage (canvas_of w h) (effects_of w h steps n)) (fun_ext G.1.each)
 
   stands-done : (d s : List ℕ) (z : SoFar) (call : Call) → ReadyFor call sheet steps src ws scr → Stands call count d s z
       → Holds w h count d (drawn_of call w h steps count ws src) × (length s ≡ length scr) × (z.count ≡ count_for call w h steps count)
@@ -97,7 +97,7 @@ module _ (sheet : Sheet) (steps : List Step) (src ws scr : List ℕ) where
     pub refused : accepted? answer ≡ false → (d ≡ ws) × (s ≡ scr) × (z.count ≡ 0)
 
   module _ (call : Call) (answer : Answer) where
-    pub progress-none : (z : SoFar) → (z.rects ≡ replicate most_steps empty) × (z.count ≡ 0) × (z.linear ≡ replicate most_steps false) → Progress call answer 0 ws scr z
+    pub progress-none : (z : SoFar) → (z.rects ≡ replicate most_steps empty) × (z.count ≡ 0) × (z.spaces ≡ replicate most_steps Srgb) → Progress call answer 0 ws scr z
     progress-none z e = record { drawn = λ _. stands-none call z e.0 e.1 e.2; refused = λ _. (refl, refl, e.1) }
 
     module _ (R : accepted? answer ≡ true → ReadyFor call sheet steps src ws scr) where

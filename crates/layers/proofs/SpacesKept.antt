@@ -1,7 +1,7 @@
 -- The spaces of the layers so far, as the loop holds them, are those of their steps. Assumes nothing.
 use Prim.Native.Nat.{ℕ, ◌+◌, ◌<◌}
 use mathlib.Core.Path.{◌≡◌, refl, ◌∙◌}
-use mathlib.Core.Bool.{Bool, true, false, cond}
+use mathlib.Core.Bool.{true}
 use mathlib.Core.List.{List}
 use native.Mathlib.Omega.{arith}
 use native.Mathlib.Decide.{ℕ_discrete}
@@ -9,8 +9,7 @@ use lib.ListN.{length, get_or, set, length-set, replicate}
 use lib.Seq.{get_or-set_same, get_or-set_other}
 use borrow.Author.Tests.{ltb-true}
 use Rattle.pixel.specs.declared.Space as S
-use Rattle.pixel.specs.declared.Space.TheVariants.{Srgb, Linear}
-use Rattle.pixel.specs.Convert.{differ?}
+use Rattle.pixel.specs.declared.Space.TheVariants.{Srgb}
 use Rattle.filter.specs.declared.Input.{Input}
 use Rattle.filter.specs.declared.Input.TheVariants.{Source, SourceAlpha, Layer}
 use Rattle.filter.specs.declared.Step.{Step}
@@ -22,29 +21,23 @@ use Rattle.damage.specs.declared.SoFar.{SoFar}
 use Rattle.buffers.specs.Shown.{spaces_by}
 
 -- after n steps
-pub record SpacesKept (steps : List Step) (n : ℕ) (zs : List Bool) : Type 0 where
+pub record SpacesKept (steps : List Step) (n : ℕ) (zs : List S.Space) : Type 0 where
   pub slots : length zs ≡ most_steps
-  pub each : (k : ℕ) → k < n → get_or zs k false ≡ differ? Srgb (step_at steps k).space
+  pub each : (k : ℕ) → k < n → get_or zs k Srgb ≡ (step_at steps k).space
 
-pub spaces-kept-none : (steps : List Step) → SpacesKept steps 0 (replicate most_steps false)
+pub spaces-kept-none : (steps : List Step) → SpacesKept steps 0 (replicate most_steps Srgb)
 spaces-kept-none steps = record { slots = refl; each = λ k l. absurd (omega arith) }
 
-pub spaces-kept-more : (steps : List Step) (n : ℕ) (zs zs' : List Bool) → n < most_steps → SpacesKept steps n zs
-    → zs' ≡ set zs n (differ? Srgb (step_at steps n).space) → SpacesKept steps (n + 1) zs'
+pub spaces-kept-more : (steps : List Step) (n : ℕ) (zs zs' : List S.Space) → n < most_steps → SpacesKept steps n zs
+    → zs' ≡ set zs n (step_at steps n).space → SpacesKept steps (n + 1) zs'
 spaces-kept-more steps n zs zs' small K e = rw e record { slots = length-set zs n _ ∙ K.slots; each = λ k l. go k l (ℕ_discrete k n) }
   where
-    go : (k : ℕ) → k < n + 1 → Dec (k ≡ n) → get_or (set zs n (differ? Srgb (step_at steps n).space)) k false ≡ differ? Srgb (step_at steps k).space
-    go k l (yes q) = rw q (get_or-set_same zs n (differ? Srgb (step_at steps n).space) false (omega (arith, K.slots)))
-    go k l (no ne) = get_or-set_other zs n k _ false ne ∙ K.each k (omega (arith, ne))
+    go : (k : ℕ) → k < n + 1 → Dec (k ≡ n) → get_or (set zs n (step_at steps n).space) k Srgb ≡ (step_at steps k).space
+    go k l (yes q) = rw q (get_or-set_same zs n (step_at steps n).space Srgb (omega (arith, K.slots)))
+    go k l (no ne) = get_or-set_other zs n k _ Srgb ne ∙ K.each k (omega (arith, ne))
 
--- a space by whether it is the source's
-by-source : (s : S.Space) → cond (differ? Srgb s) Linear Srgb ≡ s
-unfolding differ?
-by-source Srgb = refl
-by-source Linear = refl
-
-pub kept-spaces : (steps : List Step) (n : ℕ) (z : SoFar) → SpacesKept steps n z.linear → (i : Input) → allowed? n i ≡ true → spaces_by z.linear i ≡ space_of steps i
+pub kept-spaces : (steps : List Step) (n : ℕ) (z : SoFar) → SpacesKept steps n z.spaces → (i : Input) → allowed? n i ≡ true → spaces_by z.spaces i ≡ space_of steps i
 unfolding spaces_by space_of
 kept-spaces steps n z K Source t = refl
 kept-spaces steps n z K SourceAlpha t = refl
-kept-spaces steps n z K (Layer k) t = rw (K.each k (ltb-true k n t)) (by-source (step_at steps k).space)
+kept-spaces steps n z K (Layer k) t = K.each k (ltb-true k n t)

@@ -1,8 +1,8 @@
 -- A step in the context that is made for it: what it asks, and what it leaves, said of the step itself. Assumes nothing.
 use Prim.Native.Nat.{ℕ, ◌*◌}
 use mathlib.Core.Path.{◌≡◌}
-use mathlib.Core.Bool.{Bool}
 use mathlib.Core.List.{List}
+use Rattle.pixel.specs.declared.Space.{Space}
 use Rattle.filter.specs.declared.Input.{Input}
 use Rattle.filter.specs.declared.Rect.{Rect}
 use Rattle.filter.specs.declared.Resolved.{Resolved}
@@ -23,8 +23,8 @@ use Rattle.buffers.specs.LayerReplaced.{LayerReplaced}
 use Rattle.layers.specs.InContext.{ContextReady, RectInside, ContextRendered, ContextRedrawn}
 use Rattle.layers.specs.Next.{StepReady}
 
-module _ (c : Context) (w h n : ℕ) (s : Step) (zs : List Bool) (made : Resolved) (region : Rect) (ew : c.w ≡ w) (eh : c.h ≡ h) (en : c.n ≡ n) (es : c.space ≡ s.space)
-    (el : c.linear ≡ zs) (em : made ≡ resolved s) (eb : region ≡ bounds_of s.region) (src ws : List ℕ) where
+module _ (c : Context) (w h n : ℕ) (s : Step) (zs : List Space) (made : Resolved) (region : Rect) (ew : c.w ≡ w) (eh : c.h ≡ h) (en : c.n ≡ n) (es : c.space ≡ s.space)
+    (el : c.spaces ≡ zs) (em : made ≡ resolved s) (eb : region ≡ bounds_of s.region) (src ws : List ℕ) where
   pub context-ready : (scr : List ℕ) → StepReady w h n s src ws scr → ContextReady c made region src ws scr
   context-ready scr R = record {
     sized = rw (ew, eh, en) R.sized;

@@ -5,14 +5,13 @@ use Rattle.filter.specs.declared.Step.{Step}
 use Rattle.filter.specs.declared.Sheet.{Sheet}
 use Rattle.filter.specs.declared.Call.{Call}
 use Rattle.filter.specs.declared.Call.TheVariants as C
-use Rattle.filter.specs.declared.Answer.{Answer}
 use Rattle.filter.specs.Rect.{canvas_of, bounds_of}
 use Rattle.filter.specs.Picture.{Picture}
 use Rattle.filter.specs.Layers as L
 use Rattle.filter.specs.Steps.{step_at}
 use Rattle.filter.specs.Sheets.{effects_of}
 use Rattle.filter.specs.Bytes.{Holds, layers_of, redrawn_of}
-use Rattle.filter.specs.Answers.{accepted?}
+use Rattle.filter.specs.Answers.{Answer, accepted?}
 use Rattle.filter.specs.Accepted.{OnCanvas}
 use Rattle.filter.specs.Valid.{FloodBytes}
 use Rattle.layers.specs.Given.{Given}

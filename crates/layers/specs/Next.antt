@@ -1,21 +1,18 @@
 -- One step of a call: what it asks, and what it leaves. Only the code's own steps cite it. Assumes nothing.
 use Rattle.std.specs.Prelude.{ℕ, ◌+◌, ◌*◌, ◌≤◌, ◌≡◌, true, false, List, length, set}
-use Rattle.pixel.specs.declared.Space.TheVariants.{Srgb}
-use Rattle.pixel.specs.Convert.{differ?}
 use Rattle.filter.specs.declared.Rect.{Rect}
 use Rattle.filter.specs.declared.Region.{Region}
 use Rattle.filter.specs.declared.Step.{Step}
 use Rattle.filter.specs.declared.Sheet.{Sheet}
 use Rattle.filter.specs.declared.Call.{Call}
 use Rattle.filter.specs.declared.Call.TheVariants as C
-use Rattle.filter.specs.declared.Answer.{Answer}
 use Rattle.filter.specs.Rect.{canvas_of, bounds_of, area}
 use Rattle.filter.specs.Picture.{Picture, patch}
 use Rattle.filter.specs.Effect.{Effect}
 use Rattle.filter.specs.Layers.{result, damage}
 use Rattle.filter.specs.Sheets.{effect_of}
 use Rattle.filter.specs.Bytes.{size, read}
-use Rattle.filter.specs.Answers.{accepted?}
+use Rattle.filter.specs.Answers.{Answer, accepted?}
 use Rattle.filter.specs.Accepted.{AcceptedStep}
 use Rattle.filter.specs.Limits.{most_pixels}
 use Rattle.buffers.specs.Buffers.{stands, Sized, ValidInputs}
@@ -42,7 +39,7 @@ pub record NextReady (call : Call) (sheet : Sheet) (n : ℕ) (step : Step) (so_f
 
 -- a step, its inputs in the spaces that the layers so far are kept in
 abbrev pub step_effect : ℕ → ℕ → Step → SoFar → Effect
-step_effect w h step so_far = effect_of w h (spaces_by so_far.linear) step
+step_effect w h step so_far = effect_of w h (spaces_by so_far.spaces) step
 
 -- its layer, from what stands in the buffers
 abbrev pub step_layer : ℕ → ℕ → Step → List ℕ → List ℕ → SoFar → Picture
@@ -56,14 +53,14 @@ step_rect w h g step so_far = damage (canvas_of w h) (step_effect w h step so_fa
 pub record Rendered (w h n : ℕ) (step : Step) (src ws ws' : List ℕ) (so_far now : SoFar) : Type 0 where
   pub layer : LayerReplaced w h n (step_layer w h step src ws so_far) ws ws'
   pub count : now.count ≡ so_far.count
-  pub spaces : now.linear ≡ set so_far.linear n (differ? Srgb step.space)
+  pub spaces : now.spaces ≡ set so_far.spaces n step.space
 
 pub record Redrawn (w h n : ℕ) (g : Region) (step : Step) (src ws ws' : List ℕ) (so_far now : SoFar) : Type 0 where
   pub layer : LayerReplaced w h n (patch (step_rect w h g step so_far) (step_layer w h step src ws so_far) (read w h ws (n * size w h))) ws ws'
   pub rects : now.rects ≡ set so_far.rects n (step_rect w h g step so_far)
   pub count : now.count ≡ so_far.count + area (step_rect w h g step so_far)
   pub small : area (step_rect w h g step so_far) ≤ most_pixels
-  pub spaces : now.linear ≡ set so_far.linear n (differ? Srgb step.space)
+  pub spaces : now.spaces ≡ set so_far.spaces n step.space
 
 unfoldable pub CallStepDrawn : Call → Sheet → ℕ → Step → List ℕ → List ℕ → List ℕ → SoFar → SoFar → Type 0
 CallStepDrawn C.Render sheet n = Rendered sheet.width sheet.height n

@@ -24,11 +24,9 @@ pub fn check_steps(width: usize, height: usize, steps: &[Step], count: usize) ->
     ensures answers { result ≡ steps_answer width height steps.now count }
     ensures floods { (k : ℕ) → k < count → FloodBytes (step_at steps.now k).kind }
 {
-    let mut answer = Answer::Done;
-    let mut n: usize = 0;
-    while n < count {
-        answer = check_next(answer, width, height, n, steps[n]);
-        n = n + 1;
+    let mut answer = Ok(());
+    for (n, step) in steps[..count].iter().enumerate() {
+        answer = check_next(answer, width, height, n, *step);
     }
     answer
 }
@@ -47,22 +45,19 @@ pub fn draw_steps(
     requires ready_for { accepted? answer ≡ true → ReadyFor call sheet steps.now source.now workspace.old scratch.old }
     ensures { Drawing (given call sheet steps source workspace scratch) answer workspace.new scratch.new result.count }
 {
-    let count = sheet.count;
     let mut so_far = none_so_far();
-    let mut n: usize = 0;
-    while n < count {
+    for (n, step) in steps[..sheet.count].iter().enumerate() {
         so_far = draw_next(
             call,
             sheet,
             answer,
             n,
-            steps[n],
+            *step,
             so_far,
             source,
             &mut *workspace,
             &mut *scratch,
         );
-        n = n + 1;
     }
     so_far
 }

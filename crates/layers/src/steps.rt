@@ -7,7 +7,6 @@ ghost use Rattle.layers.specs.Next.{StepReady, RectsReady, NextReady, Rendered, 
 
 use super::contexts::context_for;
 use buffers::Context;
-use checks::answers::is_accepted;
 use damage::SoFar;
 use damage::damage::damage_of;
 use damage::progress::{with_rect, with_space};
@@ -64,11 +63,10 @@ fn render_next(
     ensures rendered { Rendered sheet.width sheet.height n step source.now workspace.old workspace.new before result }
     ensures work_buffer { WorkBuffer scratch.old scratch.new }
 {
-    let space = step.space;
     let region = bounds(step.region);
     let context = context_for(sheet, n, step, before, area(region));
     render_step(workspace, source, scratch, context, resolve(step), region);
-    with_space(before, n, space)
+    with_space(before, n, step.space)
 }
 
 // Its rectangle is worked out from those so far, and joins them.
@@ -87,22 +85,19 @@ fn redraw_next(
     ensures redrawn { Redrawn sheet.width sheet.height n changed step source.now workspace.old workspace.new before result }
     ensures work_buffer { WorkBuffer scratch.old scratch.new }
 {
-    let space = step.space;
     let region = bounds(step.region);
-    let rects = before.rects;
     let made = resolve(step);
-    let shape = made.shape;
     let rect = damage_of(
         sheet.width,
         sheet.height,
-        shape,
+        made.shape,
         region,
         bounds(changed),
-        rects,
+        before.rects,
     );
     let context = context_for(sheet, n, step, before, area(rect));
     redraw_step(workspace, source, scratch, context, made, region, rect);
-    with_space(with_rect(before, n, rect), n, space)
+    with_space(with_rect(before, n, rect), n, step.space)
 }
 
 // Step n of a call; where the call is refused nothing changes.
@@ -121,7 +116,7 @@ pub fn draw_next(
     ensures next_drawn { NextDrawn call sheet answer n step source.now workspace.old workspace.new before result }
     ensures scratch_after { ScratchAfter answer scratch.old scratch.new }
 {
-    if !is_accepted(answer) {
+    if answer.is_err() {
         return before;
     }
     match call {

@@ -11,6 +11,5 @@ use filter::{Sheet, Step};
 pub fn blanks() -> [Step; Sheet::STEPS]
     ensures { result ≡ replicate most_steps blank_step }
 {
-    let step = Step::blank();
-    [step; Sheet::STEPS]
+    [Step::blank(); Sheet::STEPS]
 }

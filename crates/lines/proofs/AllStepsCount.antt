@@ -8,43 +8,49 @@ use mathlib.Core.List.{List}
 use native.Mathlib.Omega.{arith}
 use lib.Dec.{ltb}
 use lib.ListN.{length, take, drop, replicate, length-append, length-take, length-drop, length-replicate}
-use Rattle.filter.specs.declared.Answer.{Answer}
+use Rattle.std.specs.Prelude.{Result, Ok, Err, IfOk}
 use Rattle.filter.specs.declared.Call.{Call}
 use Rattle.filter.specs.declared.Call.TheVariants as C
 use Rattle.filter.specs.declared.Step.{Step}
 use Rattle.filter.specs.Limits.{most_steps}
 use Rattle.filter.specs.Steps.{blank_step}
 use Rattle.filter.specs.Bytes.{bytes_of, layers_of}
-use Rattle.filter.specs.Answers.{accepted?}
+use Rattle.filter.specs.Answers.{Answer, accepted?}
 use Rattle.filter.specs.Checks.{answer_of}
 use Rattle.filter.proofs.PassedChecks.{else-accepted}
 use Rattle.checks.proofs.Acceptance.{accepted-sizes}
 use Rattle.text.specs.declared.Form.{Form}
 use Rattle.text.specs.declared.Reading.{Reading}
-use Rattle.text.specs.declared.ReadAnswer.TheVariants.{Done, Line, Records}
+use Rattle.text.specs.declared.TextRefusal.{TextRefusal}
+use Rattle.text.specs.declared.TextRefusal.TheVariants.{Line, Records}
 use Rattle.text.specs.Texts.{current}
-use Rattle.text.specs.Reading.{text_in, steps_in, first_line, refusal, all_read, reading_of}
-use Rattle.text.proofs.ReadingBounded.{reading-bounded}
+use Rattle.text.specs.Reading.{text_in, steps_in, first_line, all_read, reading_of, count_of}
+use Rattle.text.specs.Reading as R
+use Rattle.text.proofs.ReadingBounded.{ReadingBounded, reading-bounded}
 use Rattle.render.specs.Promise.{taken, drawn_bytes}
 use Rattle.lines.specs.Lines.{reading_in, list_in, sheet_in, giving_text, answer_in, layers_in}
 
-count-steps : (form : Form) (s : List ℕ) (room : ℕ) → (reading_of form s room).count ≤ length (steps_in form s)
+count-steps : (form : Form) (s : List ℕ) (room : ℕ) → count_of (reading_of form s room) ≤ length (steps_in form s)
 unfolding reading_of
 count-steps form s room = go (text_in current form s).good (ltb room (length (steps_in form s)))
   where
-    go : (a b : Bool) → (cond {A = Reading} a (cond {A = Reading} b (refusal Records) (all_read (text_in current form s) (first_line form s))) (refusal (Line (text_in current form s).line))).count ≤ length (steps_in form s)
+    go : (a b : Bool) → count_of (cond a (cond b (Err Records) (Ok (all_read (text_in current form s) (first_line form s)))) (Err (Line (text_in current form s).line))) ≤ length (steps_in form s)
     go true true = omega arith
     go true false = omega arith
     go false b = omega arith
 
+count-few : (r : Result Reading TextRefusal) → IfOk r ReadingBounded → count_of r ≤ most_steps
+count-few (Ok r) b = b.few
+count-few (Err e) b = omega arith
+
 module _ (form : Form) (s : List ℕ) (w h : ℕ) where
   abbrev count : ℕ
-  count = (reading_in form s).count
+  count = count_of (reading_in form s)
 
   pub all-counted : taken (sheet_in form s w h) (list_in form s) ≡ count
   all-counted =
       omega
-      (arith, length-append (take count (steps_in form s)) (drop count (replicate most_steps blank_step)), length-take count (steps_in form s), length-drop count (replicate most_steps blank_step), length-replicate {A = Step} most_steps blank_step, count-steps form s most_steps, (reading-bounded form s most_steps).few)
+      (arith, length-append (take count (steps_in form s)) (drop count (replicate most_steps blank_step)), length-take count (steps_in form s), length-drop count (replicate most_steps blank_step), length-replicate {A = Step} most_steps blank_step, count-steps form s most_steps, count-few _ (reading-bounded form s most_steps))
 
   -- the layers of an accepted full render
   pub render-bytes : (a : Answer) (src ws scr : List ℕ) → accepted? a ≡ true → layers_in a (giving_text form s C.Render w h src ws scr) ≡ bytes_of w h count (layers_of w h (list_in form s) count src)
@@ -66,14 +72,9 @@ module _ (form : Form) (s : List ℕ) (w h : ℕ) where
       go false e = refl
 
   -- it was read, or has no steps
-  pub read-or-none : ((reading_in form s).answer ≡ Done) ⊎ (count ≡ 0)
-  unfolding reading_of
-  read-or-none = go (text_in current form s).good (ltb most_steps (length (steps_in form s)))
+  pub read-or-none : (R.answer_of (reading_in form s) ≡ Ok tt) ⊎ (count ≡ 0)
+  read-or-none = go (reading_in form s)
     where
-      reading : Bool → Bool → Reading
-      reading a b = cond {A = Reading} a (cond {A = Reading} b (refusal Records) (all_read (text_in current form s) (first_line form s))) (refusal (Line (text_in current form s).line))
-
-      go : (a b : Bool) → ((reading a b).answer ≡ Done) ⊎ ((reading a b).count ≡ 0)
-      go true true = inr refl
-      go true false = inl refl
-      go false b = inr refl
+      go : (r : Result Reading TextRefusal) → (R.answer_of r ≡ Ok tt) ⊎ (count_of r ≡ 0)
+      go (Ok r) = inl refl
+      go (Err e) = inr refl

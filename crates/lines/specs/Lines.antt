@@ -1,29 +1,30 @@
 -- Calls whose steps are lines of text: what the reader says of the lines, and the answer and the buffers of the sheet that they make.
 -- Assumes nothing.
-use Rattle.std.specs.Prelude.{ℕ, List, ◌++◌, take, drop, replicate}
-use Rattle.filter.specs.declared.Answer.{Answer}
+use Rattle.std.specs.Prelude.{ℕ, List, ◌++◌, take, drop, replicate, Result}
+use Rattle.filter.specs.Answers.{Answer}
 use Rattle.filter.specs.declared.Call.{Call}
 use Rattle.filter.specs.declared.Sheet.{Sheet}
 use Rattle.filter.specs.declared.Step.{Step}
 use Rattle.filter.specs.Limits.{most_steps}
 use Rattle.filter.specs.Steps.{blank_step}
 use Rattle.text.specs.declared.Form.{Form}
-use Rattle.text.specs.declared.Reading as R
-use Rattle.text.specs.Reading.{reading_of, steps_in}
+use Rattle.text.specs.declared.Reading.{Reading}
+use Rattle.text.specs.declared.TextRefusal.{TextRefusal}
+use Rattle.text.specs.Reading.{reading_of, count_of, steps_in}
 use Rattle.layers.specs.Given.{Given, giving, Slice, SliceMut}
 use Rattle.render.specs.Promise.{answered, pixels_worked, if_drawn, RedrawsFor, ValidFor}
 
 -- what the reader says of a text, for a list as long as a sheet may be
-abbrev pub reading_in : Form → List ℕ → R.Reading
+abbrev pub reading_in : Form → List ℕ → Result Reading TextRefusal
 reading_in form s = reading_of form s most_steps
 
 -- that list: the steps of the text, then blank ones
 abbrev pub list_in : Form → List ℕ → List Step
-list_in form s = take (reading_in form s).count (steps_in form s) ++ drop (reading_in form s).count (replicate most_steps blank_step)
+list_in form s = take (count_of (reading_in form s)) (steps_in form s) ++ drop (count_of (reading_in form s)) (replicate most_steps blank_step)
 
 -- the sheet of the text on a canvas of w by h; a refused text has no steps
 abbrev pub sheet_in : Form → List ℕ → ℕ → ℕ → Sheet
-sheet_in form s w h = record { width = w; height = h; count = (reading_in form s).count }
+sheet_in form s w h = record { width = w; height = h; count = count_of (reading_in form s) }
 
 -- what a call on a text is given: the text in place of a sheet and a list
 pub record GivenText : Type 0 where

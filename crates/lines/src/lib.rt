@@ -3,13 +3,15 @@
 
 ghost use Rattle.std.specs.Prelude.{◌≡◌};
 ghost use Rattle.render.specs.Promise.{if_accepted, zeros};
+ghost use Rattle.render.specs.Promise.{returned_answer, returned_count};
+ghost use Rattle.text.specs.Reading.{count_of, answer_of};
 ghost use Rattle.lines.specs.Lines.{reading_in, given_text, answer_in, worked_in, layers_in, RedrawsIn, ValidIn};
 
-use filter::{Answer, Call, Sheet};
+use filter::{Answer, Call, Refusal, Sheet};
 use lent::blanks;
-use render::{Outcome, draw};
+use render::draw;
 use text::reader::read;
-use text::{Form, ReadAnswer, Reading};
+use text::{Form, ReadAnswer, Reading, TextRefusal};
 
 // What the reader says, the sheet's answer, and how many pixels a redraw worked. A refused text is a sheet of no steps, which is refused.
 #[derive(Clone, Copy)]
@@ -19,26 +21,28 @@ pub struct LinesDrawn {
     pub count: usize,
 }
 
-// The sheet of a text on a canvas.
-fn sheet_of(reading: Reading, width: usize, height: usize) -> Sheet
-    ensures { result ≡ record { width = width; height = height; count = reading.count } }
+// The sheet of a text on a canvas; a refused text has no steps.
+fn sheet_of(reading: Result<Reading, TextRefusal>, width: usize, height: usize) -> Sheet
+    ensures { result ≡ record { width = width; height = height; count = count_of reading } }
 {
+    let count = match reading {
+        Ok(read) => read.count,
+        Err(_) => 0,
+    };
     Sheet {
         width,
         height,
-        count: reading.count,
+        count,
     }
 }
 
-fn told(reading: Reading, redrawn: Outcome) -> LinesDrawn
-    ensures { result ≡ record { reading = reading.answer; answer = redrawn.answer; count = redrawn.count } }
+fn told(reading: Result<Reading, TextRefusal>, drawn: Result<usize, Refusal>) -> LinesDrawn
+    ensures { result ≡ record { reading = answer_of reading; answer = returned_answer drawn; count = returned_count drawn } }
 {
-    let read = reading.answer;
-    let answer = redrawn.answer;
     LinesDrawn {
-        reading: read,
-        answer,
-        count: redrawn.count,
+        reading: reading.map(|_| ()),
+        answer: drawn.map(|_| ()),
+        count: drawn.unwrap_or(0),
     }
 }
 
@@ -52,7 +56,7 @@ pub fn draw_lines(
     workspace: &mut [u8],
     scratch: &mut [u8],
 ) -> LinesDrawn
-    ensures reads { result.reading ≡ (reading_in form text.now).answer }
+    ensures reads { result.reading ≡ answer_of (reading_in form text.now) }
     ensures answers { result.answer ≡ answer_in (given_text form text call width height source workspace scratch) }
     ensures counts { result.count ≡ worked_in result.answer (given_text form text call width height source workspace scratch) }
     ensures layers { workspace.new ≡ layers_in result.answer (given_text form text call width height source workspace scratch) }
@@ -62,7 +66,7 @@ pub fn draw_lines(
 {
     let mut list = blanks();
     let reading = read(form, text, &mut list);
-    let redrawn = draw(
+    let drawn = draw(
         call,
         sheet_of(reading, width, height),
         &list,
@@ -70,5 +74,5 @@ pub fn draw_lines(
         workspace,
         scratch,
     );
-    told(reading, redrawn)
+    told(reading, drawn)
 }

@@ -32,27 +32,11 @@ pub fn convert_pair(to: Space, c: u8, a: u8) -> u8
     premultiply(entry(to, u as u8), a)
 }
 
-// Whether two spaces differ.
-pub fn differ(from: Space, to: Space) -> bool
-    ensures { result ≡ differ? from to }
-{
-    match from {
-        Space::Srgb => match to {
-            Space::Srgb => false,
-            Space::Linear => true,
-        },
-        Space::Linear => match to {
-            Space::Srgb => true,
-            Space::Linear => false,
-        },
-    }
-}
-
 // A pixel brought from one space to another.
 pub fn convert(from: Space, to: Space, p: Pixel) -> Pixel
     ensures { result ≡ converted from to p }
 {
-    if differ(from, to) {
+    if from != to {
         return Pixel {
             r: convert_pair(to, p.r, p.a),
             g: convert_pair(to, p.g, p.a),

@@ -10,6 +10,9 @@ ghost use Rattle.filter.specs.Checks.{sizes_answer};
 ghost use Rattle.filter.specs.Limits.{longest_side, most_pixels, most_steps};
 ghost use Rattle.damage.specs.InputRects.{AllWithin};
 
+use checks::answers::{number, place};
+use checks::checks::{check_next, check_step};
+use checks::sizes::{check_rectangle, check_sizes};
 use damage::SoFar;
 use filter::{Answer, Kind, Map, Rect, Region, Sheet, Step};
 use pixel::{Convolution, Edge, Transfer, Transfers};
@@ -19,42 +22,28 @@ use std::io::{ErrorKind, Read};
 use std::rt::Files;
 use tables::field::hex;
 use text::reader::scan;
-use text::{Form, ReadAnswer, Reading};
-
-fn print_word(rt: &impl Print, w: &[u8]) -> io::Result<()> {
-    rt.write_all(w)
-}
-
-fn print_number(rt: &impl Print, n: u64) -> io::Result<()> {
-    print!(rt; " {n}")
-}
-
-fn end_line(rt: &impl Print) -> io::Result<()> {
-    println!(rt)
-}
+use text::{Form, TextRefusal};
+use text_step::step_lines::step_of;
 
 // Lists with fewer, as many and more records than a text has steps; a bad line comes before too few records.
 
-fn print_refusal(rt: &impl Print, number: &[u8], place: usize) -> io::Result<()> {
-    print_word(rt, number)?;
-    print_number(rt, place as u64)
-}
-
-fn print_reading(rt: &impl Print, reading: Reading) -> io::Result<()> {
-    let answer = reading.answer;
-    match answer {
-        ReadAnswer::Done => print_refusal(rt, b" 0", 0)?,
-        ReadAnswer::Line(n) => print_refusal(rt, b" 15", n)?,
-        ReadAnswer::Records => print_refusal(rt, b" 21", 0)?,
+// The refusal of a text: number and place.
+fn print_refusal(rt: &impl Print, refusal: TextRefusal) -> io::Result<()> {
+    match refusal {
+        TextRefusal::Line(n) => print!(rt; " 15 {n}"),
+        TextRefusal::Records => print!(rt; " 21 0"),
     }
-    print_number(rt, reading.count as u64)?;
-    end_line(rt)
 }
 
 fn print_room(rt: &impl Print, text: &[u8], room: usize) -> io::Result<()> {
-    print_word(rt, b"Room")?;
-    print_number(rt, room as u64)?;
-    print_reading(rt, scan(Form::Lines, text, room))
+    print!(rt; "Room {room}")?;
+    match scan(Form::Lines, text, room) {
+        Ok(reading) => println!(rt; " 0 0 {}", reading.count),
+        Err(refusal) => {
+            print_refusal(rt, refusal)?;
+            println!(rt; " 0")
+        }
+    }
 }
 
 fn print_rooms(rt: &impl Print) -> io::Result<()> {
@@ -68,38 +57,27 @@ fn print_rooms(rt: &impl Print) -> io::Result<()> {
 // Records of a curve as step 2 whose red has so many entries: what no line of the form can claim.
 
 fn curve_of(count: usize) -> Step {
-    let blank = Step::blank();
     let transfers = Transfers {
         r: Transfer::Table(count),
         g: Transfer::Identity,
         b: Transfer::Identity,
         a: Transfer::Identity,
     };
-    let kind = Kind::Map(Map::Curve(transfers));
-    let region = blank.region;
-    let inputs = blank.inputs;
-    let numbers = blank.numbers;
-    let space = blank.space;
     Step {
-        kind,
-        region,
-        inputs,
-        numbers,
-        space,
+        kind: Kind::Map(Map::Curve(transfers)),
+        ..Step::blank()
     }
 }
 
 fn print_entries(rt: &impl Print, count: usize) -> io::Result<()> {
-    print_word(rt, b"Entries")?;
-    print_number(rt, count as u64)?;
-    print_answer(rt, checks::checks::check_step(1, 1, 2, curve_of(count)))?;
-    end_line(rt)
+    print!(rt; "Entries {count}")?;
+    print_answer(rt, check_step(1, 1, 2, curve_of(count)))?;
+    println!(rt)
 }
 
 // Records of a convolution as step 2 with such orders; the target is the first place.
 
 fn convolution_of(columns: usize, rows: usize) -> Step {
-    let blank = Step::blank();
     let convolution = Convolution {
         columns,
         rows,
@@ -109,29 +87,16 @@ fn convolution_of(columns: usize, rows: usize) -> Step {
         preserve: false,
         edge: Edge::None,
     };
-    let kind = Kind::Convolve(convolution);
-    let region = blank.region;
-    let inputs = blank.inputs;
-    let numbers = blank.numbers;
-    let space = blank.space;
     Step {
-        kind,
-        region,
-        inputs,
-        numbers,
-        space,
+        kind: Kind::Convolve(convolution),
+        ..Step::blank()
     }
 }
 
 fn print_orders(rt: &impl Print, columns: usize, rows: usize) -> io::Result<()> {
-    print_word(rt, b"Orders")?;
-    print_number(rt, columns as u64)?;
-    print_number(rt, rows as u64)?;
-    print_answer(
-        rt,
-        checks::checks::check_step(1, 1, 2, convolution_of(columns, rows)),
-    )?;
-    end_line(rt)
+    print!(rt; "Orders {columns} {rows}")?;
+    print_answer(rt, check_step(1, 1, 2, convolution_of(columns, rows)))?;
+    println!(rt)
 }
 
 fn print_counts(rt: &impl Print) -> io::Result<()> {
@@ -157,28 +122,23 @@ fn side(head: &[u8], i: usize) -> usize
 }
 
 fn print_answer(rt: &impl Print, answer: Answer) -> io::Result<()> {
-    print_number(rt, checks::answers::number(answer))?;
-    print_number(rt, checks::answers::place(answer) as u64)
+    print!(rt; " {} {}", number(answer), place(answer))
 }
 
 fn print_rect(rt: &impl Print, r: Rect) -> io::Result<()> {
     if damage::rectangle::is_filled(r) {
-        print_number(rt, r.left as u64)?;
-        print_number(rt, r.right as u64)?;
-        print_number(rt, r.top as u64)?;
-        print_number(rt, r.bottom as u64)
+        print!(rt; " {} {} {} {}", r.left, r.right, r.top, r.bottom)
     } else {
-        print_word(rt, b" -")
+        print!(rt; " -")
     }
 }
 
 fn print_damages(rt: &impl Print, count: usize, d: SoFar) -> io::Result<()>
     requires { count ≤ most_steps }
 {
-    print_number(rt, d.count as u64)?;
-    for n in 0..count {
-        let r = d.rects[n];
-        print_rect(rt, r)?;
+    print!(rt; " {}", d.count)?;
+    for r in &d.rects[..count] {
+        print_rect(rt, *r)?;
     }
     Ok(())
 }
@@ -189,7 +149,7 @@ fn check_canvas(w: usize, h: usize, count: usize) -> Answer
     ensures { result ≡ sizes_answer w h count (size w h) (count * size w h) (2 * size w h) }
 {
     let size = 4 * (w * h);
-    checks::sizes::check_sizes(w, h, count, size, count * size, 2 * size)
+    check_sizes(w, h, count, size, count * size, 2 * size)
 }
 
 // The rectangles with that of step n, where the step is not refused.
@@ -198,7 +158,7 @@ fn next_damages(w: usize, h: usize, n: usize, step: Step, changed: Rect, damages
     requires rects_len { (length damages.rects ≡ most_steps) × AllWithin longest_side longest_side changed damages.rects }
     ensures { (result.count ≤ (n + 1) * most_pixels) × (length result.rects ≡ most_steps) × AllWithin longest_side longest_side changed result.rects }
 {
-    if !checks::answers::is_accepted(checks::checks::check_step(w, h, n, step)) {
+    if check_step(w, h, n, step).is_err() {
         return damages;
     }
     let rects = damages.rects;
@@ -220,7 +180,7 @@ fn print_steps(
 ) -> io::Result<()>
     requires { (w ≤ longest_side) × (h ≤ longest_side) × (count ≤ most_steps) × Within longest_side longest_side changed }
 {
-    let mut answer = Answer::Done;
+    let mut answer = Ok(());
     let mut damages = damage::progress::none_so_far();
     let mut at: usize = 0;
     for n in 0..count {
@@ -228,14 +188,13 @@ fn print_steps(
         if lines.len() <= e {
             return Ok(());
         }
-        let s = text_step::step_lines::step_of(&lines[at..e]);
-        let step = s.step;
-        answer = checks::checks::check_next(answer, w, h, n, step);
+        let step = step_of(&lines[at..e]).unwrap_or(Step::blank());
+        answer = check_next(answer, w, h, n, step);
         damages = next_damages(w, h, n, step, changed, damages);
         at = text::reader::line_after(lines, at);
     }
     print_answer(rt, answer)?;
-    if checks::answers::is_accepted(answer) {
+    if answer.is_ok() {
         print_damages(rt, count, damages)?;
     }
     Ok(())
@@ -254,10 +213,8 @@ fn print_plan(
     if Sheet::STEPS < count {
         return Ok(());
     }
-    let a = check_canvas(w, h, count);
-    let b = checks::sizes::check_rectangle(w, h, changed);
-    let early = checks::answers::first(a, b);
-    if checks::answers::is_accepted(early) {
+    let early = check_canvas(w, h, count).and(check_rectangle(w, h, changed));
+    if early.is_ok() {
         print_steps(rt, w, h, damage::rectangle::bounds(changed), lines, count)
     } else {
         print_answer(rt, early)
@@ -273,10 +230,8 @@ fn print_plan_case(rt: &impl Print, head: &[u8], lines: &[u8]) -> io::Result<()>
         width: side(head, 4),
         height: side(head, 5),
     };
-    let reading = scan(Form::Lines, lines, Sheet::STEPS);
-    let answer = reading.answer;
-    match answer {
-        ReadAnswer::Done => print_plan(
+    match scan(Form::Lines, lines, Sheet::STEPS) {
+        Ok(reading) => print_plan(
             rt,
             side(head, 0),
             side(head, 1),
@@ -284,8 +239,7 @@ fn print_plan_case(rt: &impl Print, head: &[u8], lines: &[u8]) -> io::Result<()>
             lines,
             reading.count,
         ),
-        ReadAnswer::Line(n) => print_refusal(rt, b" 15", n),
-        ReadAnswer::Records => print_refusal(rt, b" 21", 0),
+        Err(refusal) => print_refusal(rt, refusal),
     }
 }
 
@@ -311,7 +265,7 @@ fn print_lines(rt: &impl Print, file: &mut impl Read, head: &[u8], n: u64) -> io
     }
     print!(rt; "{n}")?;
     print_plan_case(rt, head, &lines[..long])?;
-    end_line(rt)?;
+    println!(rt)?;
     Ok(true)
 }
 

@@ -8,7 +8,8 @@ use lib.Dec.{eqb, leb}
 use lib.ListN.{length}
 use borrow.Author.Tests.{eqb-true, le-leb}
 use Rattle.pixel.specs.Bytes.{first_invalid}
-use Rattle.filter.specs.declared.Answer.TheVariants as A
+use Rattle.std.specs.Prelude.{Ok, Err}
+use Rattle.filter.specs.declared.Refusal.TheVariants as A
 use Rattle.filter.specs.declared.Call.{Call}
 use Rattle.filter.specs.declared.Call.TheVariants as C
 use Rattle.filter.specs.declared.Region.{Region}
@@ -31,7 +32,7 @@ use Rattle.render.specs.Promise.{taken}
 -- 14 was not given
 scanned : (d : List ℕ) (n : ℕ) → accepted? (pixels_answer d n) ≡ true → first_invalid d n ≡ n
 unfolding accepted?
-scanned d n e = eqb-true (first_invalid d n) n (unless-accepted (eqb (first_invalid d n) n) (A.AboveAlpha (first_invalid d n)) A.Done refl e).0
+scanned d n e = eqb-true (first_invalid d n) n (unless-accepted (eqb (first_invalid d n) n) (Err (A.AboveAlpha (first_invalid d n))) (Ok tt) refl e).0
 
 source-passed : (w h n : ℕ) (src ws : List ℕ) (call : Call) → accepted? (contents_answer w h n src ws call) ≡ true → accepted? (pixels_answer src (w * h)) ≡ true
 source-passed w h n src ws C.Render e = e

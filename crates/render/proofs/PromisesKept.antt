@@ -4,7 +4,6 @@ use mathlib.Core.Path.{◌≡◌, refl, sym, ap, ◌∙◌, subst}
 use mathlib.Core.Bool.{Bool, true, false, false≢true}
 use mathlib.Core.List.{List}
 use lib.ListN.{replicate}
-use Rattle.filter.specs.declared.Answer.{Answer}
 use Rattle.filter.specs.declared.Call.{Call}
 use Rattle.filter.specs.declared.Call.TheVariants as C
 use Rattle.filter.specs.declared.Region.{Region}
@@ -17,10 +16,9 @@ use Rattle.filter.specs.Valid.{ValidPicture}
 use Rattle.filter.proofs.BytesHoldPictures.{bytes-hold, holds-bytes}
 use Rattle.filter.proofs.RedrawIsRenderInBytes.{redraw-buffers, redraw-keeps}
 use Rattle.filter.proofs.ValidLayers.{layers-valid, redrawn-layers-valid}
-use Rattle.filter.specs.Answers.{accepted?, number_of, place_of}
+use Rattle.filter.specs.Answers.{Answer, accepted?, number_of, place_of}
 use Rattle.layers.specs.Given.{Given, giving}
 use Rattle.layers.specs.Drawing.{ReadyFor, Drawing, drawn_of, count_for}
-use Rattle.render.specs.declared.Outcome.{Outcome}
 use Rattle.render.specs.Code.{usable_of}
 use Rattle.render.specs.Promise.{taken, answered, as_number, as_place, if_accepted, layer_bytes, drawn_bytes, if_drawn, pixels_worked, zeros, Redraws, RedrawsFor, AllValid, ValidFor}
 
@@ -43,16 +41,16 @@ redraws w h steps n g src before after H = record {
   elsewhere = redraw-keeps w h steps n (bounds_of g) src before after H;
 }
 
--- all that is promised of a call that ends with r, the workspace d and the scratch buffer z
-pub record Promised (g : Given) (r : Outcome) (d z : List ℕ) : Type 0 where
-  pub answers : r.answer ≡ answered g
-  pub number : number_of r.answer ≡ as_number g
-  pub place : place_of r.answer ≡ as_place g
-  pub counts : r.count ≡ pixels_worked r.answer g.call g.sheet g.steps
-  pub layers : d ≡ if_drawn r.answer g
-  pub cleared : z ≡ if_accepted r.answer (zeros g.scratch) g.scratch
-  pub redraws : RedrawsFor r.answer g d
-  pub valid : ValidFor r.answer g d
+-- all that is promised of a call with the answer a that worked so many pixels, the workspace d and the scratch buffer z
+pub record Promised (g : Given) (a : Answer) (total : ℕ) (d z : List ℕ) : Type 0 where
+  pub answers : a ≡ answered g
+  pub number : number_of a ≡ as_number g
+  pub place : place_of a ≡ as_place g
+  pub counts : total ≡ pixels_worked a g.call g.sheet g.steps
+  pub layers : d ≡ if_drawn a g
+  pub cleared : z ≡ if_accepted a (zeros g.scratch) g.scratch
+  pub redraws : RedrawsFor a g d
+  pub valid : ValidFor a g d
 
 -- a sheet with so many steps
 abbrev pub with : Sheet → ℕ → Sheet
@@ -106,14 +104,14 @@ module _ (call : Call) (s : Sheet) (steps : List Step) (src ws scr : List ℕ) (
       go (C.Redraw g) = rw e k
 
   -- z is the scratch buffer after the work, z' after it was cleared
-  pub promised : (z' : List ℕ) (r : Outcome) → a ≡ answered g → (accepted? a ≡ true → usable_of n ≡ n)
+  pub promised : (z' : List ℕ) → a ≡ answered g → (accepted? a ≡ true → usable_of n ≡ n)
       → (accepted? a ≡ true → ReadyFor call (with s n) steps src ws scr)
-      → Drawing (giving call (with s (usable_of n)) steps src ws scr) a d z total → r ≡ record { answer = a; count = total }
-      → z' ≡ if_accepted a (zeros z) z → Promised g r d z'
-  promised z' r fa all R D fr fz = subst (λ (x : Outcome). Promised g x d z') (sym fr) (go (accepted? a) refl)
+      → Drawing (giving call (with s (usable_of n)) steps src ws scr) a d z total
+      → z' ≡ if_accepted a (zeros z) z → Promised g a total d z'
+  promised z' fa all R D fz = go (accepted? a) refl
     where
       said : total ≡ pixels_worked a call s steps → d ≡ if_drawn a g → z' ≡ if_accepted a (zeros scr) scr → RedrawsFor a g d → ValidFor a g d
-          → Promised g (record { answer = a; count = total }) d z'
+          → Promised g a total d z'
       said c l y v w = record {
         answers = fa;
         number = ap (λ (x : Answer). number_of x) fa;
@@ -125,7 +123,7 @@ module _ (call : Call) (s : Sheet) (steps : List Step) (src ws scr : List ℕ) (
         valid = w;
       }
 
-      go : (b : Bool) → accepted? a ≡ b → Promised g (record { answer = a; count = total }) d z'
+      go : (b : Bool) → accepted? a ≡ b → Promised g a total d z'
       go true t =
           let D' = subst (λ (m : ℕ). Drawing (giving call (with s m) steps src ws scr) a d z total) (all t) D in
           let z-is : z' ≡ zeros z = rw t at fz in said (counts t (R t) D') (if-accepted a _ _ _ t (bytes t (R t) D')) (if-accepted a _ _ _ t (z-is ∙ ap (λ (m : ℕ). replicate {A = ℕ} m 0) (D'.drawn t).1)) (current t (R t) D') (valid t (R t) D')

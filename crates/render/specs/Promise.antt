@@ -1,8 +1,8 @@
 -- The answer to a call, and the buffers after a full render and after a redraw, for every input. Assumes nothing.
-use Rattle.std.specs.Prelude.{ℕ, ◌+◌, ◌*◌, ◌<◌, min, ◌≡◌, true, cond, List, length, replicate}
+use Rattle.std.specs.Prelude.{ℕ, ◌+◌, ◌*◌, ◌<◌, min, ◌≡◌, true, cond, List, length, replicate, Result, Ok, Err}
 use Rattle.pixel.specs.Alpha.{Valid}
 use Rattle.pixel.specs.Bytes.{pixel_at}
-use Rattle.filter.specs.declared.Answer.{Answer}
+use Rattle.filter.specs.declared.Refusal.{Refusal}
 use Rattle.filter.specs.declared.Call.{Call}
 use Rattle.filter.specs.declared.Call.TheVariants as C
 use Rattle.filter.specs.declared.Input.TheVariants.{Layer}
@@ -14,9 +14,18 @@ use Rattle.filter.specs.Sheets.{effects_of}
 use Rattle.filter.specs.Layers.{damages, count}
 use Rattle.filter.specs.Bytes.{size, bytes_of, layers_of, redrawn_of}
 use Rattle.filter.specs.SameOutside.{SameOutside}
-use Rattle.filter.specs.Answers.{number_of, place_of, accepted?}
+use Rattle.filter.specs.Answers.{Answer, number_of, place_of, accepted?}
 use Rattle.filter.specs.Checks.{answer_of}
 use Rattle.layers.specs.Given.{Given}
+
+-- what a call gives back: its answer, and the pixels that it worked, "0 when refused"
+abbrev pub returned_answer : Result ℕ Refusal → Answer
+returned_answer (Ok n) = Ok tt
+returned_answer (Err e) = Err e
+
+abbrev pub returned_count : Result ℕ Refusal → ℕ
+returned_count (Ok n) = n
+returned_count (Err e) = 0
 
 -- "A refusal changes nothing that was lent."
 abbrev pub if_accepted : Answer → List ℕ → List ℕ → List ℕ

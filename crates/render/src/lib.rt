@@ -8,19 +8,23 @@ pub mod views;
 ghost use Rattle.std.specs.Prelude.{◌≡◌};
 ghost use Rattle.filter.specs.Answers.{number_of, place_of};
 ghost use Rattle.layers.specs.Given.{given};
-ghost use Rattle.render.specs.Promise.{answered, as_number, as_place, if_accepted, pixels_worked, if_drawn, zeros, RedrawsFor, ValidFor};
+ghost use Rattle.render.specs.Promise.{
+  returned_answer,
+  returned_count,
+  answered,
+  as_number,
+  as_place,
+  if_accepted,
+  pixels_worked,
+  if_drawn,
+  zeros,
+  RedrawsFor,
+  ValidFor,
+};
 
-use filter::{Answer, Call, Sheet, Step};
+use filter::{Call, Refusal, Sheet, Step};
 use layers::{check_steps, draw_steps};
 use settling::{counted, finish, settle, usable};
-use window::lesser;
-
-// The answer to a call, and how many pixels a redraw worked.
-#[derive(Clone, Copy)]
-pub struct Outcome {
-    pub answer: Answer,
-    pub count: usize,
-}
 
 // Where a layer lies in a workspace: `bytes` bytes from `offset` on.
 #[derive(Clone, Copy)]
@@ -29,8 +33,17 @@ pub struct View {
     pub bytes: usize,
 }
 
+impl View {
+    // An empty part at the workspace's start.
+    pub const EMPTY: View = View {
+        offset: 0,
+        bytes: 0,
+    };
+}
+
 // A sheet drawn on the picture in `source`: every layer, or the layers in `workspace` brought up to date with a source that has changed
-// inside the changed rectangle only. The sheet's steps are the first of the list; those past its count do not count.
+// inside the changed rectangle only; the pixels that a redraw worked, or why the call is refused. The sheet's steps are the first of the list;
+// those past its count do not count.
 pub fn draw(
     call: Call,
     sheet: Sheet,
@@ -38,29 +51,21 @@ pub fn draw(
     source: &[u8],
     workspace: &mut [u8],
     scratch: &mut [u8],
-) -> Outcome
-    ensures answers { result.answer ≡ answered (given call sheet steps source workspace scratch) }
-    ensures number { number_of result.answer ≡ as_number (given call sheet steps source workspace scratch) }
-    ensures place { place_of result.answer ≡ as_place (given call sheet steps source workspace scratch) }
-    ensures counts { result.count ≡ pixels_worked result.answer call sheet steps.now }
-    ensures layers { workspace.new ≡ if_drawn result.answer (given call sheet steps source workspace scratch) }
-    ensures cleared { scratch.new ≡ if_accepted result.answer (zeros scratch.old) scratch.old }
-    ensures redraws { RedrawsFor result.answer (given call sheet steps source workspace scratch) workspace.new }
-    ensures valid { ValidFor result.answer (given call sheet steps source workspace scratch) workspace.new }
+) -> Result<usize, Refusal>
+    ensures answers { returned_answer result ≡ answered (given call sheet steps source workspace scratch) }
+    ensures number { number_of (returned_answer result) ≡ as_number (given call sheet steps source workspace scratch) }
+    ensures place { place_of (returned_answer result) ≡ as_place (given call sheet steps source workspace scratch) }
+    ensures counts { returned_count result ≡ pixels_worked (returned_answer result) call sheet steps.now }
+    ensures layers { workspace.new ≡ if_drawn (returned_answer result) (given call sheet steps source workspace scratch) }
+    ensures cleared { scratch.new ≡ if_accepted (returned_answer result) (zeros scratch.old) scratch.old }
+    ensures redraws { RedrawsFor (returned_answer result) (given call sheet steps source workspace scratch) workspace.new }
+    ensures valid { ValidFor (returned_answer result) (given call sheet steps source workspace scratch) workspace.new }
 {
-    let n = lesser(sheet.count, steps.len());
+    let n = sheet.count.min(steps.len());
     let count = usable(n);
     let checked = check_steps(sheet.width, sheet.height, steps, count);
-    let answer = settle(
-        call,
-        sheet,
-        n,
-        checked,
-        source,
-        &mut *workspace,
-        &mut *scratch,
-    );
-    let damages = draw_steps(
+    let answer = settle(call, sheet, n, checked, source, workspace, scratch.len());
+    let drawn = draw_steps(
         call,
         counted(sheet, count),
         answer,
@@ -69,5 +74,5 @@ pub fn draw(
         &mut *workspace,
         &mut *scratch,
     );
-    finish(answer, damages, scratch)
+    finish(answer, drawn, scratch)
 }

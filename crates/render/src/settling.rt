@@ -1,16 +1,14 @@
 // All checks of a call, in the order of RULES 7.3, before the first store; and what comes after the last one.
 ghost use Rattle.std.specs.Prelude.{◌≡◌, ◌*◌, ◌≤◌, length};
-ghost use Rattle.filter.specs.Checks.{pixels_answer, rectangle_answer, contents_answer, or_else};
+ghost use Rattle.filter.specs.Checks.{pixels_answer, rectangle_answer, contents_answer};
 ghost use Rattle.filter.specs.Bytes.{size};
 ghost use Rattle.filter.specs.Limits.{longest_side, most_steps};
 ghost use Rattle.render.specs.Promise.{if_accepted, zeros};
-ghost use Rattle.render.specs.Code.{usable_of, settled, AllBytes};
+ghost use Rattle.render.specs.Code.{usable_of, settled, outcome, AllBytes};
 
-use super::Outcome;
-use checks::answers::{first, is_accepted};
 use checks::sizes::{check_rectangle, check_sizes};
 use damage::SoFar;
-use filter::{Answer, Call, Sheet};
+use filter::{Answer, Call, Refusal, Sheet};
 use kernel_row::scan::first_invalid;
 
 // 14, over a buffer of h rows of w pixels.
@@ -20,24 +18,13 @@ fn check_pixels(d: &[u8], w: usize, h: usize) -> Answer
 {
     let p = first_invalid(d, w, h);
     if p == w * h {
-        return Answer::Done;
+        return Ok(());
     }
-    Answer::AboveAlpha(p)
+    Err(Refusal::AboveAlpha(p))
 }
 
-// 14, of a redraw: the source first, then the workspace.
-fn check_both(source: &[u8], workspace: &[u8], w: usize, h: usize, count: usize) -> Answer
-    requires { (count ≤ most_steps) × (h ≤ longest_side) × (length source.now ≡ size w h) × (length workspace.now ≡ count * size w h) }
-    ensures { result ≡ or_else (pixels_answer source.now (w * h)) (pixels_answer workspace.now (count * (w * h))) }
-{
-    let pixels = check_pixels(source, w, h);
-    if !is_accepted(pixels) {
-        return pixels;
-    }
-    check_pixels(workspace, w, count * h)
-}
-
-// 14.
+// 14: the source, then the workspace of a redraw.
+#[tactic(auto, using(checks::proofs::AnswerLaws::joined))]
 fn check_contents(
     call: Call,
     source: &[u8],
@@ -49,9 +36,10 @@ fn check_contents(
     requires { (count ≤ most_steps) × (h ≤ longest_side) × (length source.now ≡ size w h) × (length workspace.now ≡ count * size w h) }
     ensures { result ≡ contents_answer w h count source.now workspace.now call }
 {
+    check_pixels(source, w, h)?;
     match call {
-        Call::Render => check_pixels(source, w, h),
-        Call::Redraw(_) => check_both(source, workspace, w, h, count),
+        Call::Render => Ok(()),
+        Call::Redraw(_) => check_pixels(workspace, w, count * h),
     }
 }
 
@@ -60,7 +48,7 @@ fn check_changed(width: usize, height: usize, call: Call) -> Answer
     ensures { result ≡ rectangle_answer width height call }
 {
     match call {
-        Call::Render => Answer::Done,
+        Call::Render => Ok(()),
         Call::Redraw(changed) => check_rectangle(width, height, changed),
     }
 }
@@ -86,49 +74,34 @@ pub fn counted(sheet: Sheet, count: usize) -> Sheet
     }
 }
 
-// The answer to a call for n steps, from the steps' own answer. The buffers are lent as they will be for the work, and stay.
+// The answer to a call for n steps, from the steps' own answer and the length of the scratch buffer.
+#[tactic(auto, unfolding(crate::specs::Code::settled), using(checks::proofs::AnswerLaws::joined))]
 pub fn settle(
     call: Call,
     sheet: Sheet,
     n: usize,
     checked: Answer,
     source: &[u8],
-    workspace: &mut [u8],
-    scratch: &mut [u8],
+    workspace: &[u8],
+    scratch: usize,
 ) -> Answer
-    ensures value { result ≡ settled call sheet n checked source.now workspace.old (length scratch.old) }
-    ensures all_bytes { AllBytes source.now × AllBytes workspace.old }
-    ensures workspace_unchanged { (workspace.new ≡ workspace.old) × (scratch.new ≡ scratch.old) }
+    ensures value { result ≡ settled call sheet n checked source.now workspace.now scratch }
+    ensures all_bytes { AllBytes source.now × AllBytes workspace.now }
 {
     let width = sheet.width;
     let height = sheet.height;
-    let sizes = check_sizes(
-        width,
-        height,
-        n,
-        source.len(),
-        workspace.len(),
-        scratch.len(),
-    );
-    if !is_accepted(sizes) {
-        return sizes;
-    }
-    let early = first(check_changed(width, height, call), checked);
-    if !is_accepted(early) {
-        return early;
-    }
-    check_contents(call, source, &workspace[..], width, height, n)
+    check_sizes(width, height, n, source.len(), workspace.len(), scratch)?;
+    check_changed(width, height, call)?;
+    checked?;
+    check_contents(call, source, workspace, width, height, n)
 }
 
 // After the work: "all zero after an accepted call".
-pub fn finish(answer: Answer, damages: SoFar, scratch: &mut [u8]) -> Outcome
-    ensures value { result ≡ record { answer = answer; count = damages.count } }
+pub fn finish(answer: Answer, drawn: SoFar, scratch: &mut [u8]) -> Result<usize, Refusal>
+    ensures value { result ≡ outcome answer drawn.count }
     ensures scratch_after { scratch.new ≡ if_accepted answer (zeros scratch.old) scratch.old }
 {
-    let count = damages.count;
-    if is_accepted(answer) {
-        kernel_row::row::clear(scratch);
-        return Outcome { answer, count };
-    }
-    Outcome { answer, count }
+    answer?;
+    scratch.fill(0);
+    Ok(drawn.count)
 }

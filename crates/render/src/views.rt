@@ -10,29 +10,17 @@ pub fn view_at(width: usize, height: usize, steps: usize, n: usize, long: usize)
     ensures { (result ≡ view_at width height steps n long) × (result.offset + result.bytes ≤ long) }
 {
     if !is_canvas(width, height) {
-        return View {
-            offset: 0,
-            bytes: 0,
-        };
+        return View::EMPTY;
     }
     if !is_count(steps) {
-        return View {
-            offset: 0,
-            bytes: 0,
-        };
+        return View::EMPTY;
     }
     let size = picture_size(width, height);
     if long != steps * size {
-        return View {
-            offset: 0,
-            bytes: 0,
-        };
+        return View::EMPTY;
     }
     if steps <= n {
-        return View {
-            offset: 0,
-            bytes: 0,
-        };
+        return View::EMPTY;
     }
     View {
         offset: n * size,

@@ -5,7 +5,8 @@ use mathlib.Core.List.{List}
 use native.Mathlib.Nat.{pow-succ', pow-le-pow_right}
 use native.Mathlib.Decide.{dec_lt}
 use native.Mathlib.Omega.{arith}
-use lib.ListN.{get_or}
+use lib.ListN.{length, get_or, take, drop, length-take, length-drop}
+use lib.Seq.{get_or-take, get_or-drop}
 use borrow.Author.Tests.{lt-ltb, le-ltb}
 use Rattle.tables.specs.Hex.{digit_of, hex_of}
 
@@ -29,13 +30,16 @@ hex-small s at (suc n) = omega (arith, hex-small s at n, digit-small (get_or s (
 pub hex-room : (s : List ℕ) (at n : ℕ) → n < 16 → hex_of s at n < 1152921504606846976
 hex-room s at n h = let p : 16 ^ n ≤ 16 ^ 15 = pow-le-pow_right {n = 16} (omega arith) {i = n} {j = 15} (omega arith) in omega (arith, hex-small s at n)
 
-pub hex-none : (s : List ℕ) (at : ℕ) → hex_of s at (at - at) ≡ 0
-unfolding hex_of
-hex-none s at = let e : at - at ≡ 0 = omega arith in rw e
+-- the digits that are still to come are fewer than all
+pub digits-ahead : (s : List ℕ) (at count i : ℕ) → at + count ≤ length s → i < length (take (at + count - at) (drop at s)) → i < count
+digits-ahead s at count i h l = omega (arith, length-take (at + count - at) (drop at s), length-drop at s)
 
-pub hex-more : (s : List ℕ) (at i : ℕ) → at ≤ i → hex_of s at (i + 1 - at) ≡ hex_of s at (i - at) * 16 + digit_of (get_or s i 0)
+-- one digit more, of those from `at` on
+pub hex-more : (s : List ℕ) (at count i v d : ℕ) → i < count → v ≡ hex_of s at i → d ≡ digit_of (get_or (take (at + count - at) (drop at s)) i 0)
+    → v * 16 + d ≡ hex_of s at (i + 1)
 unfolding hex_of
-hex-more s at i h =
-    let e : i + 1 - at ≡ suc (i - at) = omega arith in
-    let f : at + (i - at) ≡ i = omega arith in
-    ap (hex_of s at) e ∙ ap (λ (k : ℕ). hex_of s at (i - at) * 16 + digit_of (get_or s k 0)) f
+hex-more s at count i v d h e f =
+    let k : i < at + count - at = omega arith in
+    let g = get_or-take (at + count - at) (drop at s) i 0 k ∙ get_or-drop at s i 0 in
+    let q : suc i ≡ i + 1 = omega arith in
+    rw (e, f, g) (ap (hex_of s at) q)

@@ -2,27 +2,20 @@
 ghost use Rattle.std.specs.Prelude.{◌≡◌, ◌+◌, ◌*◌, ◌%◌, ◌<◌, length};
 ghost use Rattle.tables.specs.Content.{sum_of, zeros?};
 
-fn wide(x: u8) -> u64
-    ensures { (result ≡ x) × (result < 256) }
-{
-    x as u64
-}
-
 fn next(sum: u64, byte: u8) -> u64
     requires { sum < 4294967291 }
     ensures { (result ≡ (sum * 257 + byte + 1) % 4294967291) × (result < 4294967291) }
 {
-    (sum * 257 + wide(byte) + 1) % 4294967291
+    (sum * 257 + byte as u64 + 1) % 4294967291
 }
 
 // A number that tells buffers apart: it begins at 0 and becomes (sum · 257 + byte + 1) mod 4,294,967,291 with each byte.
 pub fn sum(bytes: &[u8]) -> u64
     ensures { result ≡ sum_of bytes.now (length bytes.now) }
 {
-    let n = bytes.len();
     let mut sum: u64 = 0;
-    for i in 0..n {
-        sum = next(sum, bytes[i]);
+    for byte in bytes {
+        sum = next(sum, *byte);
     }
     sum
 }
@@ -31,10 +24,5 @@ pub fn sum(bytes: &[u8]) -> u64
 pub fn is_zero(bytes: &[u8]) -> bool
     ensures { result ≡ zeros? bytes.now (length bytes.now) }
 {
-    let n = bytes.len();
-    let mut zero = true;
-    for i in 0..n {
-        zero = zero & (bytes[i] == 0);
-    }
-    zero
+    bytes.iter().all(|byte| *byte == 0)
 }

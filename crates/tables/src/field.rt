@@ -17,10 +17,9 @@ pub fn hex(line: &[u8], at: usize, count: usize) -> u64
     requires { (at + count ≤ length line.now) × (count ≤ 16) }
     ensures { result ≡ hex_of line.now at count }
 {
-    let end = at + count;
     let mut value: u64 = 0;
-    for i in at..end {
-        value = value * 16 + digit(line[i]);
+    for x in &line[at..at + count] {
+        value = value * 16 + digit(*x);
     }
     value
 }

@@ -11,6 +11,7 @@ use lib.Dec.{eqb, ltb}
 use lib.ListN.{length, get_or, take, drop, set, length-map, length-drop}
 use lib.Seq.{take-suc, drop-cons, set_at, append_snoc, get_or-drop, get_or-take, length-take-le, drop-drop}
 use borrow.Author.Tests.{lt-ltb, ltb-false}
+use Rattle.std.specs.Prelude.{Option, Some, None, unwrap_or, Ok, Err, IfOk}
 use Rattle.filter.specs.declared.Step.{Step}
 use Rattle.filter.specs.Steps.{blank_step}
 use Rattle.filter.specs.Limits.{longest_text}
@@ -19,18 +20,18 @@ use Rattle.text_field.proofs.SplitByIndex.{index-le, piece-more, piece-last, pie
 use Rattle.text_step.specs.StepLine.{step_of}
 use Rattle.text.specs.Document.{canvas_in}
 use Rattle.text.specs.Lines.{lines_of}
-use Rattle.text.specs.Texts.{Limits, current, Draft, Text, refused, accepted, blank_draft, with_step, with_row, step?, row?, line?, after, draft_lines, text_of, step_lines_of}
-use Rattle.text.specs.Reading.{text_in, steps_in, line_after, line_at, first_line, refusal, all_read, reading_of}
+use Rattle.text.specs.Texts.{Limits, current, Draft, Text, refused, accepted, blank_draft, canvas_lines, with_step, with_row, step?, row?, line?, after, draft_lines, text_of, step_lines_of}
+use Rattle.text.specs.Reading.{text_in, steps_in, line_after, line_at, first_line, all_read, reading_of}
 use Rattle.text.specs.declared.Form.{Form}
 use Rattle.text.specs.declared.Form.TheVariants as F
-use Rattle.text.specs.declared.CanvasLine.{CanvasLine}
+use Rattle.text.specs.declared.Canvas.{Canvas}
 use Rattle.text.specs.declared.Reading.{Reading}
-use Rattle.text.specs.declared.ReadAnswer.TheVariants.{Line, Records}
+use Rattle.text.specs.declared.TextRefusal.TheVariants.{Line, Records}
 use Rattle.text.proofs.DocumentIsDraft.{line-is, after-step, after_row, frozen}
 use Rattle.text.proofs.LinesScanned.{text-one, text-first}
 
 abbrev step_in : List ℕ → Step
-step_in l = (step_of (split 9 l)).step
+step_in l = unwrap_or (step_of (split 9 l)) blank_step
 
 -- the first k lines are steps, and give those behind the steps before
 record Taken (before out : List Step) (ls : List (List ℕ)) : Type 0 where
@@ -46,13 +47,13 @@ taken_more before out l ls t = record { k = suc t.k; few = omega (arith, t.few);
 
 taken : (lim : Limits) (d : Draft) (n : ℕ) (ls : List (List ℕ)) → (draft_lines lim d n ls).good ≡ true → Taken d.steps (draft_lines lim d n ls).steps ls
 unfolding lines_of
-taken lim d n [] h = absurd (let z : ◌≡◌ {A = ℕ} 0 1 = cc in omega arith)
+taken lim d n [] h = absurd (cc)
 taken lim d n (l ∷ []) h = go (eqb (length l) 0) (eqb d.rows d.height) h
   where
     go : (b c : Bool) → (cond b (cond c (accepted d) (refused n)) (refused n)).good ≡ true → Taken d.steps (cond b (cond c (accepted d) (refused n)) (refused n)).steps (l ∷ [])
     go true true q = taken_none d.steps d.steps l [] refl
-    go true false q = absurd (let z : ◌≡◌ {A = ℕ} 0 1 = cc in omega arith)
-    go false c q = absurd (let z : ◌≡◌ {A = ℕ} 0 1 = cc in omega arith)
+    go true false q = absurd (cc)
+    go false c q = absurd (cc)
 taken lim d n (l ∷ m ∷ ls) h = go (step? lim d (split 9 l)) (row? d (split 9 l)) refl refl (λ q. taken lim (with_step d (step_in l)) (n + 1) (m ∷ ls) q)
   where
     go : (a c : Bool) → step? lim d (split 9 l) ≡ a → row? d (split 9 l) ≡ c
@@ -68,7 +69,7 @@ taken lim d n (l ∷ m ∷ ls) h = go (step? lim d (split 9 l)) (row? d (split 9
         rw (e1, e2) (taken_none d.steps _ l (m ∷ ls) (frozen lim (with_row d (split 9 l)) (n + 1) (m ∷ ls) (omega arith) (rw (e1, e2) at h)))
     go false false p q ih =
         let e1 = line-is lim d (split 9 l) false false p q in
-        absurd (let u = rw e1 at h in let z : ◌≡◌ {A = ℕ} 0 1 = cc in omega arith)
+        absurd (let u = rw e1 at h in cc)
 
 -- a refused text has no step
 unread : (lim : Limits) (d : Draft) (n : ℕ) (ls : List (List ℕ)) → (draft_lines lim d n ls).good ≡ false → (draft_lines lim d n ls).steps ≡ []
@@ -77,7 +78,7 @@ unread lim d n [] h = refl
 unread lim d n (l ∷ []) h = go (eqb (length l) 0) (eqb d.rows d.height) h
   where
     go : (b c : Bool) → (cond b (cond c (accepted d) (refused n)) (refused n)).good ≡ false → (cond b (cond c (accepted d) (refused n)) (refused n)).steps ≡ []
-    go true true q = absurd (let z : ◌≡◌ {A = ℕ} 0 1 = cc in omega arith)
+    go true true q = absurd (cc)
     go true false q = refl
     go false c q = refl
 unread lim d n (l ∷ m ∷ ls) h = go (line? lim d (split 9 l)) (λ q. unread lim (after lim d (split 9 l)) (n + 1) (m ∷ ls) q) h
@@ -98,10 +99,6 @@ draft-steps lim d n ls h = go (draft_lines lim d n ls).good refl
 abbrev Placed : Form → List ℕ → Type 0
 Placed form s = (first_line form s ≤ length s) × Taken [] (steps_in form s) (split 10 (drop (first_line form s) s))
 
-chosen : (t x : Text) (b : Bool) → t ≡ cond b x (refused 1) → 0 < length t.steps → t.steps ≡ x.steps
-chosen t x true e h = ap (λ (u : Text). u.steps) e
-chosen t x false e h = absurd (omega (arith, ap (λ (u : Text). length u.steps) e))
-
 text-over : (s : List ℕ) → longest_text < length s → text_of current s ≡ refused 0
 unfolding text_of
 text-over s k = rw (lt-ltb longest_text (length s) k)
@@ -110,21 +107,19 @@ module _ (s : List ℕ) where
   abbrev end : ℕ
   end = 0 + index_of 10 (drop 0 s)
 
-  abbrev canvas : CanvasLine
-  canvas = canvas_in (split 9 (take (end - 0) (drop 0 s)))
-
-  abbrev rest : Text
-  rest = draft_lines current (blank_draft canvas.width canvas.height) 2 (split 10 (drop (end + 1) s))
-
   placed-sheet : 0 < length (text_of current s).steps → Placed F.Sheet s
   placed-sheet h = go (dec_lt longest_text (length s)) (dec_lt end (length s))
     where
+      behind : end < length s → (c : Option Canvas) → text_of current s ≡ canvas_lines current c (split 10 (drop (end + 1) s)) → Placed F.Sheet s
+      behind l (Some c) q =
+          let r : (text_of current s).steps ≡ (draft_lines current (blank_draft c.width c.height) 2 (split 10 (drop (end + 1) s))).steps = ap (λ (u : Text). u.steps) q in
+          (omega arith, rw r (draft-steps current (blank_draft c.width c.height) 2 (split 10 (drop (end + 1) s)) (rw r at h)))
+      behind l None q = absurd (omega (arith, ap (λ (u : Text). length u.steps) q))
+
       go : Dec (longest_text < length s) → Dec (end < length s) → Placed F.Sheet s
       go (yes k) more = absurd (omega (arith, ap (λ (u : Text). length u.steps) (text-over s k)))
       go (no k) (no l) = absurd (omega (arith, ap (λ (u : Text). length u.steps) (text-one s end (omega arith) refl (omega arith))))
-      go (no k) (yes l) =
-          let q : (text_of current s).steps ≡ rest.steps = chosen (text_of current s) rest canvas.good (text-first s end (omega arith) refl l) h in
-          (omega arith, rw q (draft-steps current (blank_draft canvas.width canvas.height) 2 (split 10 (drop (end + 1) s)) (rw q at h)))
+      go (no k) (yes l) = behind l (canvas_in (split 9 (take (end - 0) (drop 0 s)))) (text-first s end (omega arith) refl l)
 
 placed-lines : (s : List ℕ) → 0 < length (step_lines_of current s).steps → Placed F.Lines s
 unfolding step_lines_of
@@ -172,7 +167,7 @@ module _ (form : Form) (s : List ℕ) (n at : ℕ) (below : n < length (steps_in
   pub step-inside : at ≤ length s
   step-inside = rw a there.0
 
-  pub step_is : (e : ℕ) → e ≡ at + index_of 10 (drop at s) → (step_of (split 9 (take (e - at) (drop at s)))).step ≡ get_or (steps_in form s) n blank_step
+  pub step_is : (e : ℕ) → e ≡ at + index_of 10 (drop at s) → unwrap_or (step_of (split 9 (take (e - at) (drop at s)))) blank_step ≡ get_or (steps_in form s) n blank_step
   step_is e h =
       let p : take (e - at) (drop at s) ≡ get_or lines n [] =
       sym (piece-first 10 s at e step-inside h) ∙ ap (λ (m : ℕ). get_or (split 10 (drop m s)) 0 []) a ∙ ap (λ (l : List (List ℕ)). get_or l 0 []) there.1 ∙ get_or-drop n lines 0 [] ∙ ap (λ (m : ℕ). get_or lines m []) (add-zero n) in
@@ -197,15 +192,18 @@ first-le F.Lines s = omega arith
 abbrev pub Read : Form → List ℕ → ℕ → Reading → Type 0
 Read form s room r = (r.count ≤ room) × (r.count ≤ length (steps_in form s)) × (0 < r.count → r.from ≡ first_line form s) × (r.from ≤ length s + 1)
 
-pub reading-is : (form : Form) (s : List ℕ) (room : ℕ) → Read form s room (reading_of form s room)
+pub reading-is : (form : Form) (s : List ℕ) (room : ℕ) → IfOk (reading_of form s room) (Read form s room)
 unfolding reading_of
 reading-is form s room = go (text_in current form s).good (ltb room (length (steps_in form s))) refl
   where
     go : (b c : Bool) → ltb room (length (steps_in form s)) ≡ c
-        → Read form s room (cond b (cond c (refusal Records) (all_read (text_in current form s) (first_line form s))) (refusal (Line (text_in current form s).line)))
-    go true true e = (omega arith, omega arith, λ h. absurd (omega arith), omega arith)
+        → IfOk (cond b (cond c (Err Records) (Ok (all_read (text_in current form s) (first_line form s)))) (Err (Line (text_in current form s).line))) (Read form s room)
+    go true true e = tt
     go true false e = (ltb-false room (length (steps_in form s)) e, omega arith, λ h. refl, first-le form s)
-    go false c e = (omega arith, omega arith, λ h. absurd (omega arith), omega arith)
+    go false c e = tt
+
+pub read-is : (form : Form) (s : List ℕ) (room : ℕ) {r : Reading} → reading_of form s room ≡ Ok r → Read form s room r
+read-is form s room e = rw e at (reading-is form s room)
 
 -- one record more
 pub list-next : (xs ys : List Step) (n : ℕ) (x : Step) → n < length xs → n < length ys → x ≡ get_or xs n blank_step → set (take n xs ++ drop n ys) n x ≡ take (n + 1) xs ++ drop (n + 1) ys

@@ -1,5 +1,5 @@
 -- A text as a reader of some limits takes it: the text of a sheet with its canvas and pixels, and step lines alone. Assumes nothing.
-use Rattle.std.specs.Prelude.{Bool, true, false, cond, ◌&&◌, ◌||◌, List, [], ◌∷◌, ◌++◌, ℕ, ◌+◌, ◌*◌, eqb, ltb, length, get_or, drop, replicate}
+use Rattle.std.specs.Prelude.{Bool, true, false, cond, ◌&&◌, ◌||◌, Option, Some, None, is_some, unwrap_or, List, [], ◌∷◌, ◌++◌, ℕ, ◌+◌, ◌*◌, eqb, ltb, length, get_or, drop, replicate}
 use Rattle.filter.specs.declared.Step.{Step}
 use Rattle.filter.specs.Limits.{most_steps, longest_text, text_picture}
 use Rattle.text_field.specs.Words.{bytes}
@@ -7,6 +7,8 @@ use Rattle.text_field.specs.Field.{same}
 use Rattle.text_field.specs.Split.{split}
 use Rattle.text_step.specs.ManyFields.{all_fields}
 use Rattle.text_step.specs.StepLine.{step_of}
+use Rattle.filter.specs.Steps.{blank_step}
+use Rattle.text.specs.declared.Canvas.{Canvas}
 use Rattle.text.specs.Document.{pixel?, stored_pixels, canvas_in}
 use Rattle.text.specs.Lines.{lines_of}
 
@@ -62,12 +64,12 @@ with_row d fs = record {
   height = d.height;
   rows = d.rows + 1;
   steps = d.steps;
-  pixels = (stored_pixels d.pixels (4 * (d.rows * d.width)) (drop 1 fs)).pixels;
+  pixels = unwrap_or (stored_pixels d.pixels (4 * (d.rows * d.width)) (drop 1 fs)) d.pixels;
 }
 
 -- a step before the first row: "up to 64 steps"
 abbrev pub step? : Limits → Draft → List (List ℕ) → Bool
-step? lim d fs = eqb d.rows 0 && (ltb (length d.steps) lim.steps && (step_of fs).good)
+step? lim d fs = eqb d.rows 0 && (ltb (length d.steps) lim.steps && is_some (step_of fs))
 
 -- "exactly H lines `row`, each with W pixels"
 unfoldable pub row? : Draft → List (List ℕ) → Bool
@@ -77,18 +79,22 @@ unfoldable pub line? : Limits → Draft → List (List ℕ) → Bool
 line? lim d fs = step? lim d fs || row? d fs
 
 unfoldable pub after : Limits → Draft → List (List ℕ) → Draft
-after lim d fs = cond (step? lim d fs) (with_step d (step_of fs).step) (with_row d fs)
+after lim d fs = cond (step? lim d fs) (with_step d (unwrap_or (step_of fs) blank_step)) (with_row d fs)
 
 -- the lines after what was read before
 abbrev pub draft_lines : Limits → Draft → ℕ → List (List ℕ) → Text
 draft_lines lim = lines_of (line? lim) (after lim) completed refused
 
+-- the lines after the canvas line
+abbrev pub canvas_lines : Limits → Option Canvas → List (List ℕ) → Text
+canvas_lines lim (Some c) ls = draft_lines lim (blank_draft c.width c.height) 2 ls
+canvas_lines lim None ls = refused 1
+
 -- the canvas line first
 unfoldable pub text_lines : Limits → List (List ℕ) → Text
 text_lines lim [] = refused 1
 text_lines lim (l ∷ []) = refused 1
-text_lines lim (l ∷ m ∷ ls) =
-    cond (canvas_in (split 9 l)).good (draft_lines lim (blank_draft (canvas_in (split 9 l)).width (canvas_in (split 9 l)).height) 2 (m ∷ ls)) (refused 1)
+text_lines lim (l ∷ m ∷ ls) = canvas_lines lim (canvas_in (split 9 l)) (m ∷ ls)
 
 -- "a file over 65,536 bytes, before all else, at place 0"
 unfoldable pub text_of : Limits → List ℕ → Text

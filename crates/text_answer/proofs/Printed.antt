@@ -8,21 +8,21 @@ use lib.ListN.{length, take, drop, replicate, length-append}
 use lib.Seq.{take_at}
 use borrow.Author.Tests.{le-leb, lt-leb}
 use Rattle.pixel.specs.declared.Space.{Space}
-use Rattle.filter.specs.declared.Answer.{Answer}
 use Rattle.filter.specs.declared.Call.TheVariants as C
 use Rattle.filter.specs.Picture.{Picture}
 use Rattle.filter.specs.Bytes.{size, read}
-use Rattle.filter.specs.Answers.{number_of, place_of, accepted?}
+use Rattle.filter.specs.Answers.{Answer, number_of, place_of, accepted?}
 use Rattle.text_step.specs.ManyFields.{stored}
 use Rattle.text.specs.declared.Form.TheVariants as F
-use Rattle.text.specs.declared.ReadAnswer.{ReadAnswer}
-use Rattle.text.specs.declared.ReadAnswer.TheVariants.{Done, Line, Records}
+use Rattle.std.specs.Prelude.{Result}
+use Rattle.text.specs.declared.TextRefusal.{TextRefusal}
+use Rattle.text.specs.Reading.{count_of}
 use Rattle.lines.specs.Lines.{reading_in, list_in, answer_in, layers_in}
 use Rattle.lines.proofs.AllStepsCount.{answer-some, render-bytes}
 use Rattle.text.specs.declared.Reading.{Reading}
 use Rattle.text_print.specs.Output.{in_srgb, ok_text, refused_text}
 use Rattle.text_print.specs.Code.{Put}
-use Rattle.text_answer.specs.Answer.{text_render, last_layer, last_space, answer_text, sheet_text, read_text, reading_text, printed_of, printed_into}
+use Rattle.text_answer.specs.Answer.{text_render, last_layer, last_space, answer_text, sheet_text, reading_text, printed_of, printed_into}
 use Rattle.text_answer.specs.Code.{answer_from}
 use Rattle.text_answer.proofs.LastLayer.{last-read}
 
@@ -44,7 +44,7 @@ answer-same a w h p q e = go (accepted? a) e
     go false f = refl
 
 -- the n steps of a text, drawn into a workspace of zeros
-module _ (s : List ℕ) (w h n : ℕ) (src d : List ℕ) (a : Answer) (steps : n ≡ (reading_in F.Sheet s).count) (zeros : d ≡ replicate (n * size w h) 0)
+module _ (s : List ℕ) (w h n : ℕ) (src d : List ℕ) (a : Answer) (steps : n ≡ count_of (reading_in F.Sheet s)) (zeros : d ≡ replicate (n * size w h) 0)
     (is : a ≡ answer_in (text_render s w h src d)) where
   pub drawn-some : accepted? a ≡ true → 0 < n
   drawn-some t = omega (arith, steps, answer-some F.Sheet s w h C.Render src d (replicate (2 * size w h) 0) (ap accepted? (sym is) ∙ t))
@@ -56,19 +56,6 @@ module _ (s : List ℕ) (w h n : ℕ) (src d : List ℕ) (a : Answer) (steps : n
       ∙ answer-same a w h (in_srgb (last_space s n) (read w h d' ((n - 1) * size w h))) (in_srgb (last_space s n) (last_layer s w h n src))
       (λ t. ap (in_srgb (last_space s n)) (last-read w h (list_in F.Sheet s) n src d' (drawn-some t) (e ∙ rw steps (render-bytes F.Sheet s w h a src d (replicate (2 * size w h) 0) t))))
       ∙ ap (λ (x : Answer). answer_text x w h (in_srgb (last_space s n) (last_layer s w h n src))) (is ∙ ap (λ (l : List ℕ). answer_in (text_render s w h src l)) zeros)
-
--- a reading
-pub reading-line : (s : List ℕ) (r : Reading) (n : ℕ) (a : ReadAnswer) → a ≡ Line n → refused_text 15 n ≡ reading_text s r a
-unfolding reading_text
-reading-line s r n a e = rw e
-
-pub reading-records : (s : List ℕ) (r : Reading) (a : ReadAnswer) → a ≡ Records → refused_text 21 0 ≡ reading_text s r a
-unfolding reading_text
-reading-records s r a e = rw e
-
-pub reading-done : (s : List ℕ) (r : Reading) (a : ReadAnswer) → a ≡ Done → read_text s r ≡ reading_text s r a
-unfolding reading_text
-reading-done s r a e = rw e
 
 -- a text at the start of a buffer
 module _ {t d d' : List ℕ} {n : ℕ} (p : Put t 0 d d' n) where
@@ -83,10 +70,10 @@ module _ {t d d' : List ℕ} {n : ℕ} (p : Put t 0 d d' n) where
   put-taken = ap (take n) starts ∙ take_at t (drop (0 + length t) d) n (omega (arith, p.ends))
 
 -- the answer to a text
-module _ (s : List ℕ) {r : Reading} {d d' : List ℕ} {n : ℕ} (is : r ≡ reading_in F.Sheet s) (p : Put (reading_text s r r.answer) 0 d d' n) where
-  text-is : reading_text s r r.answer ≡ printed_of s
+module _ (s : List ℕ) {r : Result Reading TextRefusal} {d d' : List ℕ} {n : ℕ} (is : r ≡ reading_in F.Sheet s) (p : Put (reading_text s r) 0 d d' n) where
+  text-is : reading_text s r ≡ printed_of s
   unfolding printed_of
-  text-is = ap (λ (x : Reading). reading_text s x x.answer) is
+  text-is = ap (reading_text s) is
 
   pub printed-length : n ≡ length (printed_of s)
   printed-length = omega (arith, p.ends, ap length text-is)

@@ -1,16 +1,15 @@
 -- From a text to what the program `sheet` prints. Assumes nothing.
-use Rattle.std.specs.Prelude.{cond, List, ℕ, ◌-◌, ◌*◌, leb, length, take, replicate}
+use Rattle.std.specs.Prelude.{cond, List, ℕ, ◌-◌, ◌*◌, leb, length, take, replicate, Result, Ok, Err}
 use Rattle.pixel.specs.declared.Space as S
-use Rattle.filter.specs.declared.Answer as A
 use Rattle.filter.specs.declared.Call.TheVariants.{Render}
 use Rattle.filter.specs.Picture.{Picture}
 use Rattle.filter.specs.Bytes.{size, layers_of}
 use Rattle.filter.specs.Steps.{step_at}
-use Rattle.filter.specs.Answers.{number_of, place_of, accepted?}
+use Rattle.filter.specs.Answers.{Answer, number_of, place_of, accepted?}
 use Rattle.text_step.specs.ManyFields.{stored}
 use Rattle.text.specs.declared.Form.TheVariants as F
-use Rattle.text.specs.declared.ReadAnswer.{ReadAnswer}
-use Rattle.text.specs.declared.ReadAnswer.TheVariants.{Done, Line, Records}
+use Rattle.text.specs.declared.TextRefusal.{TextRefusal}
+use Rattle.text.specs.declared.TextRefusal.TheVariants.{Line, Records}
 use Rattle.text.specs.declared.Reading.{Reading}
 use Rattle.text_print.specs.Output.{in_srgb, ok_text, refused_text}
 use Rattle.lines.specs.Lines.{GivenText, giving_text, reading_in, list_in, answer_in}
@@ -20,7 +19,7 @@ abbrev pub text_render : List ℕ → ℕ → ℕ → List ℕ → List ℕ → 
 text_render s w h src ws = giving_text F.Sheet s Render w h src ws (replicate (2 * size w h) 0)
 
 -- its answer for n steps, with a workspace of the right length
-abbrev pub text_answer : List ℕ → ℕ → ℕ → ℕ → List ℕ → A.Answer
+abbrev pub text_answer : List ℕ → ℕ → ℕ → ℕ → List ℕ → Answer
 text_answer s w h n src = answer_in (text_render s w h src (replicate (n * size w h) 0))
 
 abbrev pub last_layer : List ℕ → ℕ → ℕ → ℕ → List ℕ → Picture
@@ -35,7 +34,7 @@ abbrev pub longest : ℕ
 longest = 2371
 
 -- "`ok` and the last layer as `row` lines, or one line: `refused`, number, place"
-unfoldable pub answer_text : A.Answer → ℕ → ℕ → Picture → List ℕ
+unfoldable pub answer_text : Answer → ℕ → ℕ → Picture → List ℕ
 answer_text a w h p = cond (accepted? a) (ok_text w h p) (refused_text (number_of a) (place_of a))
 
 -- "`sheet` prints the last layer in sRGB"
@@ -47,14 +46,14 @@ abbrev pub read_text : List ℕ → Reading → List ℕ
 read_text s r = sheet_text s r.width r.height r.count (take (size r.width r.height) r.pixels)
 
 -- "For text, 15 comes before all others": the first line not of the form. 21 is never met: the list has room for every sheet
-unfoldable pub reading_text : List ℕ → Reading → ReadAnswer → List ℕ
-reading_text s r Done = read_text s r
-reading_text s r (Line n) = refused_text 15 n
-reading_text s r Records = refused_text 21 0
+unfoldable pub reading_text : List ℕ → Result Reading TextRefusal → List ℕ
+reading_text s (Ok r) = read_text s r
+reading_text s (Err (Line n)) = refused_text 15 n
+reading_text s (Err Records) = refused_text 21 0
 
 -- what `sheet` prints for a text
 unfoldable pub printed_of : List ℕ → List ℕ
-printed_of s = reading_text s (reading_in F.Sheet s) (reading_in F.Sheet s).answer
+printed_of s = reading_text s (reading_in F.Sheet s)
 
 -- that at the start of out, where it fits
 abbrev pub printed_into : List ℕ → List ℕ → List ℕ

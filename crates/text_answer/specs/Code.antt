@@ -2,7 +2,7 @@
 use Rattle.std.specs.Prelude.{◌≡◌, List, ℕ, ◌-◌, ◌*◌, ◌≤◌, length}
 use Rattle.pixel.specs.declared.Space as S
 use Rattle.text.specs.declared.Reading.{Reading}
-use Rattle.filter.specs.declared.Answer as A
+use Rattle.filter.specs.Answers.{Answer}
 use Rattle.filter.specs.Bytes.{size, read}
 use Rattle.filter.specs.Limits.{most_steps, longest_text_side, text_picture}
 use Rattle.text_print.specs.Output.{in_srgb}
@@ -16,5 +16,5 @@ pub record ReadingWithin (r : Reading) : Type 0 where
   pub pixels : length r.pixels ≡ text_picture
 
 -- an answer's text, from a workspace of n layers whose last is kept in the space s
-abbrev pub answer_from : A.Answer → S.Space → ℕ → ℕ → ℕ → List ℕ → List ℕ
+abbrev pub answer_from : Answer → S.Space → ℕ → ℕ → ℕ → List ℕ → List ℕ
 answer_from a s w h n d = answer_text a w h (in_srgb s (read w h d ((n - 1) * size w h)))

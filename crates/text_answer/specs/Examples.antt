@@ -22,7 +22,7 @@ use Rattle.text_field.specs.Words.{bytes}
 use Rattle.text_field.specs.Split as T
 use Rattle.text_field.specs.Field as F
 use Rattle.text_step.specs.ManyFields as M
-use Rattle.text_step.specs.Spaces.{space?, space_at, closed?}
+use Rattle.text_step.specs.Spaces.{space_in}
 use Rattle.text_step.specs.Kinds as K
 use Rattle.text_step.specs.StepLine as P
 use Rattle.text.specs.Document as D
@@ -55,9 +55,9 @@ pub record Printed : Type 0 where
 pub printed : Printed
 unfolding nearest judged_ratio composited flooded first_invalid remapped to_linear to_srgb differ? converted R.inside patch
     L.replaced L.initial L.rendered work_of paired S.shaped space_of effect_of B.read B.concat accepted? C.first_of C.all C.inputs?
-    C.numbers_answer C.step_answer C.sizes_answer C.answer_of T.split T.join_pieces T.index_of F.same F.digit_of F.accumulated
-    F.digits_of F.natural_of F.hex_of F.fraction_of F.magnitude_of F.numeral_of M.all_fields M.flattened M.padded M.stored space? space_at
-    closed? K.kind_if K.first_kind K.merge_inputs K.kind_of P.input_of P.step_inputs_of P.step_numbers_of P.assembled P.step_as P.step_of
+    C.numbers_answer C.step_answer C.sizes_answer C.answer_of T.split T.index_of F.digit_of F.accumulated
+    F.digits_of F.natural_of F.hex_of F.fraction_of F.magnitude_of F.numeral_of M.all_fields M.flattened M.padded M.stored M.array_of space_in
+    K.first_kind K.merge_inputs K.kind_of P.input_of P.step_as P.step_of
     D.stored_pixels D.canvas_in lines_of X.row? X.line? X.after X.text_lines X.text_of reading_of digit shortest decimal hex_byte
     hex_pixel line field_list row_fields row_lines ok_text refused_text answer_text sheet_text reading_text printed_of
 printed = record { paper = refl; linear = refl; nothing = refl; stepless = refl; minus = refl }

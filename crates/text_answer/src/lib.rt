@@ -1,23 +1,24 @@
 // From a text to what the program `sheet` prints. Canvases in text are small, so all buffers are local.
 #![tactic(auto)]
 
-ghost use Rattle.std.specs.Prelude.{◌≡◌, true, ◌-◌, ◌*◌, ◌≤◌, ◌<◌, length, replicate};
+ghost use Rattle.std.specs.Prelude.{◌≡◌, true, ◌-◌, ◌*◌, ◌≤◌, ◌<◌, length, replicate, Ok, IfOk};
 ghost use Rattle.filter.specs.Bytes.{size, read as picture};
 ghost use Rattle.filter.specs.Answers.{accepted?};
 ghost use Rattle.filter.specs.Limits.{most_steps, longest_text_side};
 ghost use Rattle.text.specs.declared.Form.TheVariants as F;
+ghost use Rattle.text.specs.Reading.{count_of};
 ghost use Rattle.lines.specs.Lines.{reading_in, answer_in, layers_in};
 ghost use Rattle.text_print.specs.Code.{Put};
 ghost use Rattle.text_answer.specs.Answer.{longest, text_render, last_space, sheet_text, read_text, reading_text, printed_of, printed_into};
 ghost use Rattle.text_answer.specs.Code.{ReadingWithin, answer_from};
 
-use checks::answers::{is_accepted, number, place};
+use checks::answers::{number, place};
 use checks::sizes::picture_size;
 use filter::{Answer, Call, Sheet};
 use lines::draw_lines;
 use pixel::Space;
 use text::reader::{last_space, scan};
-use text::{Form, ReadAnswer, Reading};
+use text::{Form, Reading, TextRefusal};
 use text_print::digits::put_word;
 use text_print::lines::{put_ok, put_refused};
 
@@ -69,7 +70,7 @@ fn print_answer(
     requires out_len { (length out.old ≡ longest) × (accepted? answer ≡ true → 0 < count) }
     ensures { Put (answer_from answer space width height count workspace.now) 0 out.old out.new result }
 {
-    if is_accepted(answer) {
+    if answer.is_ok() {
         let layer = last_layer(width, height, count, workspace);
         return put_ok(out, 0, width, height, layer, space);
     }
@@ -87,7 +88,7 @@ fn print_drawn(
     workspace: &mut [u8],
     out: &mut [u8],
 ) -> usize
-    requires width_le_longest_text_side { (width ≤ longest_text_side) × (height ≤ longest_text_side) × (count ≡ (reading_in F.Sheet text.now).count) }
+    requires width_le_longest_text_side { (width ≤ longest_text_side) × (height ≤ longest_text_side) × (count ≡ count_of (reading_in F.Sheet text.now)) }
     requires workspace_value { (workspace.old ≡ replicate (count * size width height) 0) × (length out.old ≡ longest) × (space ≡ last_space text.now count) }
     ensures { Put (sheet_text text.now width height count source.now) 0 out.old out.new result }
 {
@@ -104,7 +105,7 @@ fn print_sheet(
     source: &[u8],
     out: &mut [u8],
 ) -> usize
-    requires width_le_longest_text_side { (width ≤ longest_text_side) × (height ≤ longest_text_side) × (count ≡ (reading_in F.Sheet text.now).count) }
+    requires width_le_longest_text_side { (width ≤ longest_text_side) × (height ≤ longest_text_side) × (count ≡ count_of (reading_in F.Sheet text.now)) }
     requires count_le_most_steps { (count ≤ most_steps) × (length out.old ≡ longest) × (space ≡ last_space text.now count) }
     ensures { Put (sheet_text text.now width height count source.now) 0 out.old out.new result }
 {
@@ -123,38 +124,37 @@ fn print_sheet(
 }
 
 // The working space of the text's last step. A text without steps is refused: there it is that of a blank step.
-fn space_of(text: &[u8], from: usize, count: usize) -> Space
-    requires { (from ≡ (reading_in F.Sheet text.now).from) × (count ≡ (reading_in F.Sheet text.now).count) }
-    ensures { result ≡ last_space text.now count }
+fn space_of(text: &[u8], reading: Reading) -> Space
+    requires { reading_in F.Sheet text.now ≡ Ok reading }
+    ensures { result ≡ last_space text.now reading.count }
 {
-    if count == 0 {
+    if reading.count == 0 {
         return Space::Linear;
     }
-    last_space(Form::Sheet, text, from, count)
+    last_space(Form::Sheet, text, reading.from, reading.count)
 }
 
 fn print_read(text: &[u8], reading: Reading, out: &mut [u8]) -> usize
-    requires { (reading ≡ reading_in F.Sheet text.now) × ReadingWithin reading × (length out.old ≡ longest) }
+    requires { (reading_in F.Sheet text.now ≡ Ok reading) × ReadingWithin reading × (length out.old ≡ longest) }
     ensures { Put (read_text text.now reading) 0 out.old out.new result }
 {
     let width = reading.width;
     let height = reading.height;
     let count = reading.count;
     let pixels = reading.pixels;
-    let space = space_of(text, reading.from, count);
+    let space = space_of(text, reading);
     let n = picture_size(width, height);
     print_sheet(text, width, height, count, space, &pixels[..n], out)
 }
 
-fn print_reading(text: &[u8], reading: Reading, out: &mut [u8]) -> usize
-    requires { (reading ≡ reading_in F.Sheet text.now) × ReadingWithin reading × (length out.old ≡ longest) }
-    ensures { Put (reading_text text.now reading reading.answer) 0 out.old out.new result }
+fn print_reading(text: &[u8], reading: Result<Reading, TextRefusal>, out: &mut [u8]) -> usize
+    requires { (reading ≡ reading_in F.Sheet text.now) × IfOk reading ReadingWithin × (length out.old ≡ longest) }
+    ensures { Put (reading_text text.now reading) 0 out.old out.new result }
 {
-    let answer = reading.answer;
-    match answer {
-        ReadAnswer::Done => print_read(text, reading, out),
-        ReadAnswer::Line(line) => put_refused(out, 0, 15, line),
-        ReadAnswer::Records => put_refused(out, 0, 21, 0),
+    match reading {
+        Ok(read) => print_read(text, read, out),
+        Err(TextRefusal::Line(line)) => put_refused(out, 0, 15, line),
+        Err(TextRefusal::Records) => put_refused(out, 0, 21, 0),
     }
 }
 

@@ -5,7 +5,7 @@ use Prim.Native.Nat.{ℕ, zero, suc, ◌+◌, ◌*◌, ◌≤◌, ◌<◌}
 use native.Mathlib.Omega.{arith}
 use native.Mathlib.Nat.{mul-le-mul_right, add-mul}
 use lib.ListN.{length, length-append}
-use Rattle.text_field.specs.Split.{join_pieces}
+use Rattle.std.specs.List.{join_with_byte}
 use Rattle.pixel.specs.declared.Pixel.{Pixel}
 use Rattle.pixel.specs.declared.Space.{Space}
 use Rattle.pixel.specs.declared.Space.TheVariants.{Srgb}
@@ -21,14 +21,13 @@ use Rattle.text_print.proofs.PutTexts.{put_then, put_as}
 use Rattle.text_print.proofs.DecimalDigits.{hex-length}
 
 -- one field more
-join_more : (d : ℕ) (f : List ℕ) (fs : List (List ℕ)) (g : List ℕ) → join_pieces d (f ∷ (fs ++ (g ∷ []))) ≡ join_pieces d (f ∷ fs) ++ (d ∷ g)
-unfolding join_pieces
+join_more : (d : ℕ) (f : List ℕ) (fs : List (List ℕ)) (g : List ℕ) → join_with_byte d (f ∷ (fs ++ (g ∷ []))) ≡ join_with_byte d (f ∷ fs) ++ (d ∷ g)
 join_more d f [] g = refl
-join_more d f (e ∷ fs) g = ap (λ (l : List ℕ). f ++ (d ∷ l)) (join_more d e fs g) ∙ sym (append_assoc f (d ∷ join_pieces d (e ∷ fs)) (d ∷ g))
+join_more d f (e ∷ fs) g = ap (λ (l : List ℕ). f ++ (d ∷ l)) (join_more d e fs g) ∙ sym (append_assoc f (d ∷ join_with_byte d (e ∷ fs)) (d ∷ g))
 
 -- each field after a tab
-join-listed : (f : List ℕ) (g : ℕ → List ℕ) (n : ℕ) → join_pieces 9 (f ∷ field_list g n) ≡ f ++ concat (λ i. 9 ∷ g i) n
-unfolding join_pieces field_list concat
+join-listed : (f : List ℕ) (g : ℕ → List ℕ) (n : ℕ) → join_with_byte 9 (f ∷ field_list g n) ≡ f ++ concat (λ i. 9 ∷ g i) n
+unfolding field_list concat
 join-listed f g zero = sym (append-nil f)
 join-listed f g (suc n) =
     join_more 9 f (field_list g n) (g n) ∙ ap (◌++ (9 ∷ g n)) (join-listed f g n) ∙ append_assoc f (concat (λ i. 9 ∷ g i) n) (9 ∷ g n)
@@ -88,7 +87,7 @@ unfolding row_lines
 lines-length w h p = concat-length (λ y. line (row_fields w (λ x. p x y))) (9 * w + 4) (λ y. row-length w (λ x. p x y)) h
 
 ok-is : (w h : ℕ) (p : Picture) → (ok_word ++ (10 ∷ [])) ++ row_lines w h p ≡ ok_text w h p
-unfolding ok_text line join_pieces
+unfolding ok_text line
 ok-is w h p = refl
 
 pub ok-length : (w h : ℕ) (p : Picture) → length (ok_text w h p) ≡ 3 + length (row_lines w h p)
@@ -101,7 +100,7 @@ ok-put w h p q r s l =
 
 -- a refusal
 refused-is : (number place : ℕ) → ((refused_word ++ (9 ∷ decimal number)) ++ (9 ∷ decimal place)) ++ (10 ∷ []) ≡ refused_text number place
-unfolding refused_text line join_pieces
+unfolding refused_text line
 refused-is number place =
     ap (◌++ (10 ∷ [])) (sym (join_more 9 refused_word (decimal number ∷ []) (decimal place) ∙ ap (◌++ (9 ∷ decimal place)) (join_more 9 refused_word [] (decimal number))))
 

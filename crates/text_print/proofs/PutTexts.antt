@@ -5,8 +5,7 @@ use Prim.Native.Nat.{ℕ, ◌+◌, ◌*◌, ◌≤◌, ◌<◌}
 use native.Mathlib.Omega.{arith}
 use native.Mathlib.Nat.{add-zero, add-mul, mul-le-mul_right}
 use native.Mathlib.Numerals.{add-one}
-use lib.ListN.{length, get_or, take, set, length-append}
-use lib.Seq.{take-suc, take_all, length-take-le}
+use lib.ListN.{length, set, length-append}
 use Rattle.filter.specs.Bytes.{concat}
 use Rattle.filter.proofs.BytesHoldPictures.{concat-length}
 use Rattle.text_step.specs.ManyFields.{stored}
@@ -31,21 +30,6 @@ module _ {t : List ℕ} {at : ℕ} {d d' : List ℕ} {m : ℕ} (p : Put t at d d
 
   pub put_as : (u : List ℕ) → t ≡ u → Put u at d d' m
   put_as u e = rw e at p
-
--- a word byte by byte
-pub word_none : (word : List ℕ) (at : ℕ) (d : List ℕ) → Put (take 0 word) at d d (at + 0)
-word_none word at d = rw (add-zero at) (put-none at d)
-
-module _ (word : List ℕ) (at : ℕ) {d d' : List ℕ} (i : ℕ) (room : at + length word ≤ length d) (p : Put (take i word) at d d' (at + i)) where
-  pub word_more : i < length word → length d' ≡ length d → Put (take (i + 1) word) at d (set d' (at + i) (get_or word i 0)) (at + (i + 1))
-  word_more h l =
-      let k : length (take i word) ≡ i = length-take-le i word (omega arith) in
-      let e : at + i + 1 ≡ at + (i + 1) = omega arith in
-      rw (add-one i, take-suc word i 0)
-      (rw (add-one i) at (rw e at (put_then p (put_one (at + i) d' (get_or word i 0) (omega arith)) (omega arith))))
-
-  pub word-all : length word ≤ i → Put word at d d' (at + i)
-  word-all h = rw (take_all i word h) at p
 
 -- n texts of k bytes each, one after another: what a loop keeps after i of them
 module _ (f : ℕ → List ℕ) (k n at : ℕ) (d : List ℕ) where

@@ -12,13 +12,13 @@ use borrow.Author.Tests.{lt-ltb, ne_eqb}
 use Rattle.pixel.specs.declared.Pixel.{Pixel}
 use Rattle.pixel.specs.Alpha.{Bytes}
 use Rattle.filter.specs.Bytes.{four_bytes}
-use Rattle.text_field.specs.Split.{split, join_pieces}
+use Rattle.std.specs.List.{join_with_byte}
+use Rattle.std.specs.Prelude.{Option, Some, None}
+use Rattle.std.proofs.lemmas.List.Sums.{sum_by-cons}
+use Rattle.text_field.specs.Split.{split}
 use Rattle.text_field.specs.Field.{digit_of, accumulated, digits_of, natural_of, whole_of, hex_of, given?, value_in}
-use Rattle.text_field.specs.declared.Amount.{Amount}
-use Rattle.text_field.specs.declared.Amount.TheVariants.{Is, Not}
 use Rattle.text_field.proofs.DigitNumbers.{digit-decimal, digit-letter, digits-run, natural-short, natural-other, hex-is}
-use Rattle.text_field.proofs.SplitByIndex.{occurs}
-use Rattle.text_field.proofs.SplitOfJoin.{Free, none, more, split-join}
+use Rattle.text_field.proofs.SplitOfJoin.{occurs, Free, none, more, split-join}
 use Rattle.text.specs.Document.{pixel?, bytes_in, pixel_of}
 use Rattle.text_print.specs.Digits.{digit, shortest, decimal, hex_byte, hex_pixel}
 use Rattle.text_print.specs.Output.{row_word, field_list, row_fields}
@@ -36,18 +36,18 @@ accumulated-first : (b d : ℕ) (s : List ℕ) (n : ℕ) → d < b → b ≤ 16 
 unfolding accumulated
 accumulated-first b d s n h k = rw (digit-read d (omega arith), lt-ltb d b)
 
-accumulated-last : (b : ℕ) (s : List ℕ) (d n r : ℕ) → accumulated b s n ≡ Is r → d < b → b ≤ 16 → accumulated b (s ++ (digit d ∷ [])) n ≡ Is (b * r + d)
+accumulated-last : (b : ℕ) (s : List ℕ) (d n r : ℕ) → accumulated b s n ≡ Some r → d < b → b ≤ 16 → accumulated b (s ++ (digit d ∷ [])) n ≡ Some (b * r + d)
 unfolding accumulated
 accumulated-last b [] d n r e h k = let q : n ≡ r = cc in rw q (accumulated-first b d [] r h k)
 accumulated-last b (y ∷ s) d n r e h k = go (ltb (digit_of y) b) (λ q. accumulated-last b s d (b * n + digit_of y) r q h k) e
   where
-    go : (t : Bool) → (accumulated b s (b * n + digit_of y) ≡ Is r → accumulated b (s ++ (digit d ∷ [])) (b * n + digit_of y) ≡ Is (b * r + d)) → cond t (accumulated b s (b * n + digit_of y)) Not ≡ Is r → cond t (accumulated b (s ++ (digit d ∷ [])) (b * n + digit_of y)) Not ≡ Is (b * r + d)
+    go : (t : Bool) → (accumulated b s (b * n + digit_of y) ≡ Some r → accumulated b (s ++ (digit d ∷ [])) (b * n + digit_of y) ≡ Some (b * r + d)) → cond t (accumulated b s (b * n + digit_of y)) None ≡ Some r → cond t (accumulated b (s ++ (digit d ∷ [])) (b * n + digit_of y)) None ≡ Some (b * r + d)
     go true ih q = ih q
-    go false ih q = absurd (let z : ◌≡◌ {A = ℕ} 0 1 = cc in omega arith)
+    go false ih q = absurd (cc)
 
 -- s are the digits of n, at most m + 1, the first of several not 0
 record Shown (s : List ℕ) (n m : ℕ) : Type 0 where
-  value : accumulated 10 s 0 ≡ Is n
+  value : accumulated 10 s 0 ≡ Some n
   some : 1 ≤ length s
   few : length s ≤ suc m
   first : 0 < n → get_or s 0 0 ≡ 48 → ⊥
@@ -56,7 +56,7 @@ record Shown (s : List ℕ) (n m : ℕ) : Type 0 where
 shown-digit : (n m : ℕ) → n < 10 → Shown (digit n ∷ []) n m
 unfolding accumulated
 shown-digit n m h = record {
-  value = accumulated-first 10 n [] 0 h (omega arith) ∙ ap Is (omega arith);
+  value = accumulated-first 10 n [] 0 h (omega arith) ∙ ap Some (omega arith);
   some = omega arith;
   few = omega arith;
   first = λ k e. omega (arith, digit_low n h);
@@ -67,7 +67,7 @@ shown-more : (s : List ℕ) (n m : ℕ) → 10 ≤ n → Shown s (n / 10) m → 
 shown-more s n m h t =
     let l : length (s ++ (digit (n % 10) ∷ [])) ≡ length s + 1 = length-append s (digit (n % 10) ∷ []) in
     record {
-      value = accumulated-last 10 s (n % 10) 0 (n / 10) t.value (omega arith) (omega arith) ∙ ap Is (omega arith);
+      value = accumulated-last 10 s (n % 10) 0 (n / 10) t.value (omega arith) (omega arith) ∙ ap Some (omega arith);
       some = omega arith;
       few = omega (arith, t.few);
       first = λ k e. t.first (omega arith) (sym (get_or-append s (digit (n % 10) ∷ []) 0 0 (omega (arith, t.some))) ∙ e);
@@ -88,7 +88,7 @@ unfolding decimal
 decimal-few m n h = (shown n n m (omega arith) h).few
 
 -- 1 to m digits "without leading zeros"
-pub decimal-read : (m n : ℕ) → 1 ≤ m → n < 10 ^ m → natural_of m (decimal n) ≡ Is n
+pub decimal-read : (m n : ℕ) → 1 ≤ m → n < 10 ^ m → natural_of m (decimal n) ≡ Some n
 unfolding decimal
 decimal-read zero n h l = absurd (omega arith)
 decimal-read (suc m) n h l =
@@ -104,7 +104,7 @@ decimal-read (suc m) n h l =
     natural (no k) t = natural-short (suc m) (shortest n n) (omega arith)
 
 -- "Whole fields have 1 to 4 digits"
-pub whole-read : (n : ℕ) → n ≤ 9999 → whole_of (decimal n) ≡ Is n
+pub whole-read : (n : ℕ) → n ≤ 9999 → whole_of (decimal n) ≡ Some n
 whole-read n h = decimal-read 4 n (omega arith) (omega arith)
 
 -- the two digits of a byte before others
@@ -119,7 +119,7 @@ module _ (p : Pixel) (b : Bytes p) where
   word : ℕ
   word = 256 * (256 * (256 * p.r + p.g) + p.b) + p.a
 
-  pixel-word : hex_of (hex_pixel p) ≡ Is word
+  pixel-word : hex_of (hex_pixel p) ≡ Some word
   unfolding hex_pixel accumulated word
   pixel-word =
       let n : ℕ = 256 * (256 * (256 * 0 + p.r) + p.g) + p.b in
@@ -128,33 +128,33 @@ module _ (p : Pixel) (b : Bytes p) where
       ∙ byte-read p.g (hex_byte p.b ++ hex_byte p.a) (256 * 0 + p.r) b.g
       ∙ byte-read p.b (hex_byte p.a) (256 * (256 * 0 + p.r) + p.g) b.b
       ∙ ap (λ (s : List ℕ). accumulated 16 s n) (sym (append-nil (hex_byte p.a))) ∙ byte-read p.a [] n b.a
-      ∙ ap Is (omega arith)
+      ∙ ap Some (omega arith)
 
   pub pixel-given : pixel? (hex_pixel p) ≡ true
   pixel-given = ap given? pixel-word
 
   pub pixel-read : pixel_of (hex_pixel p) ≡ four_bytes p
   unfolding word
-  pixel-read = ap (λ (a : Amount). bytes_in (value_in a)) pixel-word ∙ four (omega (arith, b)) (omega (arith, b)) (omega (arith, b)) (omega (arith, b))
+  pixel-read = ap (λ (a : Option ℕ). bytes_in (value_in a)) pixel-word ∙ four (omega (arith, b)) (omega (arith, b)) (omega (arith, b)) (omega (arith, b))
     where
       four : {i j k l : ℕ} → i ≡ p.r → j ≡ p.g → k ≡ p.b → l ≡ p.a → i ∷ j ∷ k ∷ l ∷ [] ≡ four_bytes p
       four q r s t = rw (q, r, s, t)
 
 -- no digit is a tab
 digit-free : (d : ℕ) (s : List ℕ) → occurs 9 (digit d ∷ s) ≡ occurs 9 s
-unfolding occurs digit
-digit-free d s = go (ltb d 10)
+unfolding digit
+digit-free d s = sum_by-cons (λ x. cond (eqb x 9) 1 0) (digit d) s ∙ go (ltb d 10)
   where
-    go : (t : Bool) → cond (eqb (cond t (48 + d) (87 + d)) 9) (suc (occurs 9 s)) (occurs 9 s) ≡ occurs 9 s
-    go true = rw (ne_eqb (48 + d) 9 (λ e. omega arith))
-    go false = rw (ne_eqb (87 + d) 9 (λ e. omega arith))
+    go : (t : Bool) → cond (eqb (cond t (48 + d) (87 + d)) 9) 1 0 + occurs 9 s ≡ occurs 9 s
+    go true = rw (ne_eqb (48 + d) 9 (λ e. omega arith)) (omega arith)
+    go false = rw (ne_eqb (87 + d) 9 (λ e. omega arith)) (omega arith)
 
 byte-free : (x : ℕ) (s : List ℕ) → occurs 9 (hex_byte x ++ s) ≡ occurs 9 s
 unfolding hex_byte
 byte-free x s = digit-free (x / 16) (digit (x % 16) ∷ s) ∙ digit-free (x % 16) s
 
 pixel-free : (p : Pixel) → occurs 9 (hex_pixel p) ≡ 0
-unfolding hex_pixel occurs
+unfolding hex_pixel
 pixel-free p =
     byte-free p.r (hex_byte p.g ++ (hex_byte p.b ++ hex_byte p.a)) ∙ byte-free p.g (hex_byte p.b ++ hex_byte p.a) ∙ byte-free p.b (hex_byte p.a)
     ∙ ap (occurs 9) (sym (append-nil (hex_byte p.a))) ∙ byte-free p.a []
@@ -169,6 +169,6 @@ listed_free f h zero = none
 listed_free f h (suc n) = free-append (field_list f n) (f n ∷ []) (listed_free f h n) (more (h n) none)
 
 -- a row's line has its fields
-pub row-split : (w : ℕ) (row : ℕ → Pixel) → split 9 (join_pieces 9 (row_fields w row)) ≡ row_fields w row
-unfolding row_fields occurs
+pub row-split : (w : ℕ) (row : ℕ → Pixel) → split 9 (join_with_byte 9 (row_fields w row)) ≡ row_fields w row
+unfolding row_fields
 row-split w row = split-join 9 row_word (field_list (λ x. hex_pixel (row x)) w) (more refl (listed_free (λ x. hex_pixel (row x)) (λ x. pixel-free (row x)) w))

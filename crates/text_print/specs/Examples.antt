@@ -2,7 +2,6 @@
 use Rattle.std.specs.Prelude.{◌≡◌, refl, cond, eqb}
 use Rattle.pixel.specs.Alpha.{pixel}
 use Rattle.text_field.specs.Words.{bytes}
-use Rattle.text_field.specs.Split as T
 use Rattle.filter.specs.Bytes as B
 use Rattle.filter.specs.Picture.{Picture}
 use Rattle.text_print.specs.Digits.{digit, shortest, decimal, hex_byte, hex_pixel}
@@ -22,5 +21,5 @@ pub record Printed : Type 0 where
   pub refused : refused_text 15 4 ≡ bytes "refused\t15\t4\n"
 
 pub printed : Printed
-unfolding T.join_pieces B.concat digit shortest decimal hex_byte hex_pixel line field_list row_fields row_lines ok_text refused_text
+unfolding B.concat digit shortest decimal hex_byte hex_pixel line field_list row_fields row_lines ok_text refused_text
 printed = record { none = refl; ten = refl; hundreds = refl; ok = refl; refused = refl }

@@ -1,7 +1,7 @@
 -- The lines that are printed. Assumes nothing.
 use Rattle.std.specs.Prelude.{List, [], ◌∷◌, ◌++◌, ℕ, zero, suc}
 use Rattle.text_field.specs.Words.{bytes}
-use Rattle.text_field.specs.Split.{join_pieces}
+use Rattle.std.specs.List.{join_with_byte}
 use Rattle.pixel.specs.declared.Pixel.{Pixel}
 use Rattle.pixel.specs.declared.Space as S
 use Rattle.pixel.specs.declared.Space.TheVariants.{Srgb}
@@ -22,7 +22,7 @@ row_word = bytes "row"
 
 -- "fields parted by one tab, each line closed by a line feed"
 unfoldable pub line : List (List ℕ) → List ℕ
-line fs = join_pieces 9 fs ++ (10 ∷ [])
+line fs = join_with_byte 9 fs ++ (10 ∷ [])
 
 -- f 0, .. , f (n - 1)
 unfoldable pub field_list : (ℕ → List ℕ) → ℕ → List (List ℕ)

@@ -23,7 +23,7 @@ fn put_field(out: &mut [u8], at: usize, layer: &[u8], space: Space, i: usize) ->
         b: layer[i + 2],
         a: layer[i + 3],
     };
-    let end = put_byte(out, at, 9);
+    let end = put_byte(out, at, b'\t');
     put_pixel(out, end, convert(space, Space::Srgb, p))
 }
 
@@ -33,12 +33,10 @@ fn put_row(out: &mut [u8], at: usize, w: usize, layer: &[u8], space: Space, from
     ensures { Put (line (row_fields w (row_from space layer.now from))) at out.old out.new result }
 {
     let mut end = put_word(out, at, b"row");
-    let mut x = 0;
-    while x < w {
+    for x in 0..w {
         end = put_field(out, end, layer, space, from + 4 * x);
-        x += 1;
     }
-    put_byte(out, end, 10)
+    put_byte(out, end, b'\n')
 }
 
 // The lines of a picture that is kept in a space.
@@ -48,10 +46,8 @@ pub fn put_rows(out: &mut [u8], at: usize, w: usize, h: usize, layer: &[u8], spa
     ensures { Put (row_lines w h (in_srgb space (read w h layer.now 0))) at out.old out.new result }
 {
     let mut end = at;
-    let mut y = 0;
-    while y < h {
+    for y in 0..h {
         end = put_row(out, end, w, layer, space, 4 * (y * w));
-        y += 1;
     }
     end
 }
@@ -63,7 +59,7 @@ pub fn put_ok(out: &mut [u8], at: usize, w: usize, h: usize, layer: &[u8], space
     ensures { Put (ok_text w h (in_srgb space (read w h layer.now 0))) at out.old out.new result }
 {
     let end = put_word(out, at, b"ok");
-    let rows = put_byte(out, end, 10);
+    let rows = put_byte(out, end, b'\n');
     put_rows(out, rows, w, h, layer, space)
 }
 
@@ -72,7 +68,7 @@ fn put_number(out: &mut [u8], at: usize, n: usize) -> usize
     requires { at + 1 + length (decimal n) ≤ length out.old }
     ensures { Put (9 ∷ decimal n) at out.old out.new result }
 {
-    let tab = put_byte(out, at, 9);
+    let tab = put_byte(out, at, b'\t');
     put_decimal(out, tab, n)
 }
 
@@ -84,5 +80,5 @@ pub fn put_refused(out: &mut [u8], at: usize, number: usize, place: usize) -> us
     let word = put_word(out, at, b"refused");
     let first = put_number(out, word, number);
     let second = put_number(out, first, place);
-    put_byte(out, second, 10)
+    put_byte(out, second, b'\n')
 }

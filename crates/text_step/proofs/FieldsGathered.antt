@@ -8,8 +8,9 @@ use native.Mathlib.Numerals.{add-one}
 use native.Mathlib.Omega.{arith}
 use lib.ListN.{length, get_or, take, drop, set, replicate, length-append, length-map}
 use lib.Seq.{take-suc, split_at, set_at, append_snoc, take_all, length-take-le}
+use Rattle.std.specs.Prelude.{Option, Some, None, is_some, unwrap_or}
 use Rattle.filter.specs.Steps.{listed}
-use Rattle.text_step.specs.ManyFields.{all_fields, padded}
+use Rattle.text_step.specs.ManyFields.{all_fields, padded, array_of}
 
 pub all-fields-append : (good : List ℕ → Bool) (a b : List (List ℕ)) → all_fields good (a ++ b) ≡ (all_fields good a && all_fields good b)
 unfolding all_fields
@@ -93,3 +94,30 @@ field_of f n i h = let e : 0 + i ≡ i = omega arith in listed_at f 0 n i h ∙ 
 pub fields-long : (f : ℕ → List ℕ) (i n : ℕ) → length (listed f i n) ≡ n
 fields-long f i zero = refl
 fields-long f i (suc n) = ap suc (fields-long f (suc i) n)
+
+-- what a loop over fields that may say something keeps: what those so far say, in an array of m
+module _ {A : Type 0} (value : List ℕ → Option A) (m : ℕ) (z : A) (fs : List (List ℕ)) where
+  abbrev pub Filled : ℕ → ℕ → List A → Type 0
+  Filled n i vs = FieldsGathered (λ f. is_some (value f)) (λ f. unwrap_or (value f) z) (padded m z) fs n i vs
+
+  pub filled-none : (n : ℕ) → length fs ≡ n → Filled n 0 (replicate m z)
+  filled-none n e = fields-gathered-none (λ f. is_some (value f)) (λ f. unwrap_or (value f) z) (padded m z) fs n e (padded-none m z)
+
+  pub filled-more : (n i : ℕ) (vs : List A) {x : A} → Filled n i vs → n ≤ m → i < n → value (get_or fs i []) ≡ Some x → Filled n (i + 1) (set vs i x)
+  filled-more n i vs {x} I k h e =
+      array-more (λ f. is_some (value f)) (λ f. unwrap_or (value f) z) m z fs n i vs x I k h (ap (λ (o : Option A). is_some o) e) (ap (λ (o : Option A). unwrap_or o z) e)
+
+  pub filled-bad : (n i : ℕ) (vs : List A) → Filled n i vs → i < n → value (get_or fs i []) ≡ None → None ≡ array_of value m z fs
+  unfolding array_of
+  filled-bad n i vs I h e =
+      let b : all_fields (λ f. is_some (value f)) fs ≡ false =
+      fields-gathered-bad (λ f. is_some (value f)) (λ f. unwrap_or (value f) z) (padded m z) fs n i vs I h (ap (λ (o : Option A). is_some o) e) in
+      rw b
+
+  pub filled-all : (n i : ℕ) (vs : List A) → Filled n i vs → n ≤ i → Some vs ≡ array_of value m z fs
+  unfolding array_of
+  filled-all n i vs I h =
+      let a = fields-gathered-all (λ f. is_some (value f)) (λ f. unwrap_or (value f) z) (padded m z) fs n i vs I h in
+      let g : all_fields (λ f. is_some (value f)) fs ≡ true = a.0 in
+      let v : vs ≡ padded m z (map (λ f. unwrap_or (value f) z) fs) = a.1 in
+      rw (g, v)

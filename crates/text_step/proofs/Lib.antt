@@ -1,8 +1,4 @@
--- Laws that the proofs of the reader cite.
+-- Fields read one after another, bytes stored, and the kind of a line.
 pub mod FieldsGathered
 pub mod StoredBytes
-pub mod SpaceField
-pub mod Transferred
-pub mod Kernels
-pub mod Placed
-pub mod StepLineParts
+pub mod KindsGiven

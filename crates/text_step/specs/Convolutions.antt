@@ -1,7 +1,7 @@
 -- The convolution of a line: input, orders, values, divisor, bias, target, preserve-alpha, edge mode; "an absent divisor as an empty field". Assumes nothing.
-use Rattle.std.specs.Prelude.{Bool, false, cond, ◌&&◌, ◌||◌, List, [], ℕ, ◌+◌, ltb, length, get_or}
+use Rattle.std.specs.Prelude.{Bool, true, false, cond, ◌&&◌, Option, Some, None, is_some, unwrap_or, List, [], ℕ, ◌+◌, ltb, length, get_or}
 use Rattle.pixel.specs.declared.Edge.{Edge}
-use Rattle.pixel.specs.declared.Edge.TheVariants.{Duplicate, Wrap, None}
+use Rattle.pixel.specs.declared.Edge.TheVariants as E
 use Rattle.pixel.specs.declared.Convolution.{Convolution}
 use Rattle.filter.specs.Convolutions.{orders?, values_in}
 use Rattle.text_field.specs.Words.{bytes}
@@ -9,19 +9,25 @@ use Rattle.text_field.specs.Field.{same, given?}
 use Rattle.text_step.specs.Fields.{whole_field, whole_at}
 
 -- a field is not empty
-unfoldable pub filled? : List ℕ → Bool
+abbrev pub filled? : List ℕ → Bool
 filled? f = ltb 0 (length f)
 
 -- "preserve-alpha (`true` or `false`)"
-unfoldable pub truth? : List ℕ → Bool
-truth? f = same f (bytes "true") || same f (bytes "false")
+unfoldable pub truth_in : List ℕ → Option Bool
+truth_in f = cond (same f (bytes "true")) (Some true) (cond (same f (bytes "false")) (Some false) None)
+
+abbrev pub truth? : List ℕ → Bool
+truth? f = is_some (truth_in f)
 
 -- "the edge modes duplicate, wrap and none"
-unfoldable pub edge? : List ℕ → Bool
-edge? f = same f (bytes "duplicate") || (same f (bytes "wrap") || same f (bytes "none"))
+unfoldable pub edge_in : List ℕ → Option Edge
+edge_in f = cond (same f (bytes "duplicate")) (Some E.Duplicate) (cond (same f (bytes "wrap")) (Some E.Wrap) (cond (same f (bytes "none")) (Some E.None) None))
 
-unfoldable pub edge_of : List ℕ → Edge
-edge_of f = cond (same f (bytes "duplicate")) Duplicate (cond (same f (bytes "wrap")) Wrap None)
+abbrev pub edge? : List ℕ → Bool
+edge? f = is_some (edge_in f)
+
+abbrev pub edge_of : List ℕ → Edge
+edge_of f = unwrap_or (edge_in f) E.None
 
 -- the field of the divisor: behind input, orders and values
 abbrev pub divisor_field : Convolution → ℕ
@@ -29,7 +35,7 @@ divisor_field k = 8 + values_in k
 
 -- a convolution of these orders
 abbrev pub ordered : ℕ → ℕ → Convolution
-ordered columns rows = record { columns = columns; rows = rows; divided = false; column = 0; row = 0; preserve = false; edge = None }
+ordered columns rows = record { columns = columns; rows = rows; divided = false; column = 0; row = 0; preserve = false; edge = E.None }
 
 -- what a line says whose divisor's field is d: bias and target, preserve-alpha and edge mode follow it; an order that is no whole field is as 0,
 -- which no kernel has
@@ -40,7 +46,7 @@ convolution_at fs d = record {
   divided = filled? (get_or fs d []);
   column = whole_at fs (d + 2);
   row = whole_at fs (d + 3);
-  preserve = same (get_or fs (d + 4) []) (bytes "true");
+  preserve = unwrap_or (truth_in (get_or fs (d + 4) [])) false;
   edge = edge_of (get_or fs (d + 5) []);
 }
 
@@ -58,3 +64,7 @@ behind? fs d =
 -- "a bad order (in text 15)"; a target of the form that is not inside the kernel is 17, and not this
 abbrev pub kernel? : Convolution → List (List ℕ) → Bool
 kernel? k fs = orders? k && behind? fs (divisor_field k)
+
+-- the convolution of a line, where it is of the form
+abbrev pub convolution_in : List (List ℕ) → Option Convolution
+convolution_in fs = cond (kernel? (convolution_of fs) fs) (Some (convolution_of fs)) None

@@ -1,5 +1,5 @@
 -- The kinds of step by their words. Assumes nothing.
-use Rattle.std.specs.Prelude.{Bool, true, false, cond, ◌&&◌, List, [], ◌∷◌, ℕ, ◌-◌, length, get_or}
+use Rattle.std.specs.Prelude.{Bool, true, cond, ◌&&◌, Option, Some, None, option_and_then, List, [], ◌∷◌, ℕ, ◌-◌, length, get_or}
 use Rattle.pixel.specs.declared.Operator.{Operator}
 use Rattle.pixel.specs.declared.Operator.TheVariants as O
 use Rattle.filter.specs.declared.Map.{Map}
@@ -15,9 +15,6 @@ use Rattle.text_step.specs.Fields.{byte_field, flood_byte}
 use Rattle.text_step.specs.Spaces.{space?}
 use Rattle.text_step.specs.Transfers.{transfers_of, words?}
 use Rattle.text_step.specs.Convolutions.{convolution_of, kernel?}
-use Rattle.text_step.specs.declared.Details.{Details}
-use Rattle.text_step.specs.declared.KindFound.{KindFound}
-use Rattle.text_step.specs.declared.KindFound.TheVariants.{Known, Unknown}
 
 abbrev pub operator_word : Operator → List ℕ
 operator_word O.Over = bytes "over"
@@ -51,41 +48,25 @@ kind_word (K.Pair p) = pair_word p
 kind_word (K.Merge n) = bytes "merge"
 kind_word (K.Convolve k) = bytes "conv"
 
--- a kind where the word is its own
-unfoldable pub kind_if : Bool → Kind → KindFound → KindFound
-kind_if true k other = Known k
-kind_if false k other = other
-
 -- the first of the kinds whose word is w
-unfoldable pub first_kind : List ℕ → List Kind → KindFound
-first_kind w [] = Unknown
-first_kind w (k ∷ ks) = kind_if (same w (kind_word k)) k (first_kind w ks)
-
--- all kinds, with what a line says of them
-abbrev pub kinds : Details → List Kind
-kinds d =
-    K.Flood d.r d.g d.b ∷ K.Offset ∷ K.Pass Pass.Blur ∷ K.Pass Pass.Erode ∷ K.Pass Pass.Dilate
-    ∷ K.Map Map.Matrix ∷ K.Map Map.Saturate ∷ K.Map Map.Luminance ∷ K.Map (Map.Curve d.transfers)
-    ∷ K.Pair (Pair.Operator O.Over) ∷ K.Pair (Pair.Operator O.In) ∷ K.Pair (Pair.Operator O.Out) ∷ K.Pair (Pair.Operator O.Atop)
-    ∷ K.Pair (Pair.Operator O.Xor) ∷ K.Pair Pair.Arithmetic ∷ K.Merge d.inputs ∷ K.Convolve d.convolution ∷ []
+unfoldable pub first_kind : List ℕ → List Kind → Option Kind
+first_kind w [] = None
+first_kind w (k ∷ ks) = cond (same w (kind_word k)) (Some k) (first_kind w ks)
 
 -- a merge's inputs are the fields after the region, without the last where that is a working space: no input is so called
 unfoldable pub merge_inputs : List (List ℕ) → ℕ
 merge_inputs fs = cond (space? (get_or fs (length fs - 1) [])) (length fs - 6) (length fs - 5)
 
--- what a line says beside its word, inputs and numbers: a flood's bytes, how many inputs a merge has, a curve's transfers, a convolution
-abbrev pub details_of : List (List ℕ) → Details
-details_of fs = record {
-  r = flood_byte fs 5;
-  g = flood_byte fs 6;
-  b = flood_byte fs 7;
-  inputs = merge_inputs fs;
-  transfers = transfers_of fs;
-  convolution = convolution_of fs;
-}
+-- all kinds, with what a line says beside its word, inputs and numbers: a flood's bytes, a curve's transfers, how many inputs a merge has, a convolution
+abbrev pub kinds : List (List ℕ) → List Kind
+kinds fs =
+    K.Flood (flood_byte fs 5) (flood_byte fs 6) (flood_byte fs 7) ∷ K.Offset ∷ K.Pass Pass.Blur ∷ K.Pass Pass.Erode ∷ K.Pass Pass.Dilate
+    ∷ K.Map Map.Matrix ∷ K.Map Map.Saturate ∷ K.Map Map.Luminance ∷ K.Map (Map.Curve (transfers_of fs))
+    ∷ K.Pair (Pair.Operator O.Over) ∷ K.Pair (Pair.Operator O.In) ∷ K.Pair (Pair.Operator O.Out) ∷ K.Pair (Pair.Operator O.Atop)
+    ∷ K.Pair (Pair.Operator O.Xor) ∷ K.Pair Pair.Arithmetic ∷ K.Merge (merge_inputs fs) ∷ K.Convolve (convolution_of fs) ∷ []
 
-unfoldable pub kind_of : List (List ℕ) → KindFound
-kind_of fs = first_kind (get_or fs 0 []) (kinds (details_of fs))
+unfoldable pub kind_of : List (List ℕ) → Option Kind
+kind_of fs = first_kind (get_or fs 0 []) (kinds fs)
 
 -- "R, G, B bytes"
 abbrev pub colour? : List (List ℕ) → Bool
@@ -106,6 +87,10 @@ details? (K.Map m) fs = map_details? m fs
 details? (K.Pair p) fs = true
 details? (K.Merge n) fs = true
 details? (K.Convolve k) fs = kernel? k fs
+
+-- the kind of a line that says all it needs beside inputs and numbers
+abbrev pub kind_in : List (List ℕ) → Option Kind
+kind_in fs = option_and_then (λ k. cond (details? k fs) (Some k) None) (kind_of fs)
 
 -- "Merge without 1 to 4 inputs is 15 here", and so is a table of 0 or more than 16 entries
 abbrev pub sound? : Kind → List (List ℕ) → Bool

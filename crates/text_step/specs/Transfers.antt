@@ -1,5 +1,5 @@
 -- The transfers of a curve's line: "for R, G, B, A the kind's word, an entry count for tables, the numbers". Assumes nothing.
-use Rattle.std.specs.Prelude.{Bool, cond, ◌&&◌, ◌||◌, List, [], ℕ, ◌+◌, get_or}
+use Rattle.std.specs.Prelude.{Bool, cond, ◌&&◌, Option, Some, None, is_some, unwrap_or, List, [], ℕ, ◌+◌, get_or}
 use Rattle.pixel.specs.declared.Transfer.{Transfer}
 use Rattle.pixel.specs.declared.Transfer.TheVariants.{Identity, Table, Discrete, Linear}
 use Rattle.pixel.specs.declared.Transfers.{Transfers}
@@ -8,17 +8,22 @@ use Rattle.text_field.specs.Words.{bytes}
 use Rattle.text_field.specs.Field.{same}
 use Rattle.text_step.specs.Fields.{whole_at}
 
--- a field is one of the four words
-unfoldable pub word? : List ℕ → Bool
-word? f = same f (bytes "identity") || (same f (bytes "table") || (same f (bytes "discrete") || same f (bytes "linear")))
-
 -- the transfer whose word stands in field p, a table's count in the next; a count that is no whole field is as 0, which no table has
-unfoldable pub transfer_at : List (List ℕ) → ℕ → Transfer
-transfer_at fs p =
-    cond (same (get_or fs p []) (bytes "identity")) Identity
-    (cond (same (get_or fs p []) (bytes "table")) (Table (whole_at fs (p + 1)))
-    (cond (same (get_or fs p []) (bytes "discrete")) (Discrete (whole_at fs (p + 1)))
-    Linear))
+unfoldable pub transfer_in : List (List ℕ) → ℕ → Option Transfer
+transfer_in fs p =
+    cond (same (get_or fs p []) (bytes "identity")) (Some Identity)
+    (cond (same (get_or fs p []) (bytes "table")) (Some (Table (whole_at fs (p + 1))))
+    (cond (same (get_or fs p []) (bytes "discrete")) (Some (Discrete (whole_at fs (p + 1))))
+    (cond (same (get_or fs p []) (bytes "linear")) (Some Linear)
+    None)))
+
+-- field p is one of the four words
+abbrev pub word? : List (List ℕ) → ℕ → Bool
+word? fs p = is_some (transfer_in fs p)
+
+-- its transfer; of a field that is none of them, of which no curve is made, linear
+abbrev pub transfer_at : List (List ℕ) → ℕ → Transfer
+transfer_at fs p = unwrap_or (transfer_in fs p) Linear
 
 -- the fields of a channel in front of its numbers, and all of them
 abbrev pub head_of : Transfer → ℕ
@@ -53,8 +58,8 @@ transfers_of fs =
 
 -- each of them has one of the four words
 abbrev pub words? : Transfers → List (List ℕ) → Bool
-words? t fs =
-    word? (get_or fs red_from [])
-    && (word? (get_or fs (green_from t.r) [])
-    && (word? (get_or fs (blue_from t.r t.g) [])
-    && word? (get_or fs (alpha_from t.r t.g t.b) [])))
+words? t fs = word? fs red_from && (word? fs (green_from t.r) && (word? fs (blue_from t.r t.g) && word? fs (alpha_from t.r t.g t.b)))
+
+-- the transfers of a line, where each of them has its word
+abbrev pub transfers_in : List (List ℕ) → Option Transfers
+transfers_in fs = cond (words? (transfers_of fs) fs) (Some (transfers_of fs)) None

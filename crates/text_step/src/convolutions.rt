@@ -1,53 +1,36 @@
 // The convolution of a line.
 ghost use Rattle.std.specs.Prelude.{◌≡◌, ◌≤◌};
 ghost use Rattle.text_field.specs.Split.{split};
-ghost use Rattle.text_step.specs.Convolutions.{filled?, truth?, edge?, edge_of, divisor_field, ordered, convolution_at, convolution_of, behind?, kernel?};
+ghost use Rattle.text_step.specs.Convolutions.{truth_in, edge_in, divisor_field, ordered, convolution_in};
 
-use super::fields::{whole_at, whole_given};
+use super::fields::{whole_at, whole_field};
 use filter::convolutions::{orders_allowed, values_in};
 use pixel::{Convolution, Edge};
-use text_field::lines::{equals, field};
-use window::both;
+use text_field::lines::field;
 
-fn is_filled(f: &[u8]) -> bool
-    ensures { result ≡ filled? f.now }
+// What `true` and `false` say.
+#[tactic(auto, unfolding(crate::specs::Convolutions::truth_in))]
+fn truth_in(f: &[u8]) -> Option<bool>
+    ensures { result ≡ truth_in f.now }
 {
-    0 < f.len()
+    match f {
+        b"true" => Some(true),
+        b"false" => Some(false),
+        _ => None,
+    }
 }
 
-// Whether a field is `true` or `false`.
-fn is_truth(f: &[u8]) -> bool
-    ensures { result ≡ truth? f.now }
+// The edge mode that a field names.
+#[tactic(auto, unfolding(crate::specs::Convolutions::edge_in))]
+fn edge_in(f: &[u8]) -> Option<Edge>
+    ensures { result ≡ edge_in f.now }
 {
-    if equals(f, b"true") {
-        return true;
+    match f {
+        b"duplicate" => Some(Edge::Duplicate),
+        b"wrap" => Some(Edge::Wrap),
+        b"none" => Some(Edge::None),
+        _ => None,
     }
-    equals(f, b"false")
-}
-
-// Whether a field is one of the three edge modes.
-fn is_edge(f: &[u8]) -> bool
-    ensures { result ≡ edge? f.now }
-{
-    if equals(f, b"duplicate") {
-        return true;
-    }
-    if equals(f, b"wrap") {
-        return true;
-    }
-    equals(f, b"none")
-}
-
-fn edge_of(f: &[u8]) -> Edge
-    ensures { result ≡ edge_of f.now }
-{
-    if equals(f, b"duplicate") {
-        return Edge::Duplicate;
-    }
-    if equals(f, b"wrap") {
-        return Edge::Wrap;
-    }
-    Edge::None
 }
 
 fn ordered(columns: usize, rows: usize) -> Convolution
@@ -70,50 +53,23 @@ fn divisor_field(convolution: Convolution) -> usize
     8 + values_in(convolution)
 }
 
-// What a line says whose divisor's field is d.
-fn convolution_at(line: &[u8], d: usize) -> Convolution
-    requires { d ≤ 33 }
-    ensures { result ≡ convolution_at (split 9 line.now) d }
-{
-    Convolution {
-        columns: whole_at(line, 6),
-        rows: whole_at(line, 7),
-        divided: is_filled(field(line, d)),
-        column: whole_at(line, d + 2),
-        row: whole_at(line, d + 3),
-        preserve: equals(field(line, d + 4), b"true"),
-        edge: edge_of(field(line, d + 5)),
-    }
-}
-
-// The convolution of a line. Its orders say how many values there are, and so where the other fields stand.
-pub fn convolution_of(line: &[u8]) -> Convolution
-    ensures { result ≡ convolution_of (split 9 line.now) }
+// The convolution of a line: orders of 1 to 5, and target, preserve-alpha and edge mode of the form. The orders say how many values
+// there are, and so where the other fields stand.
+#[tactic(auto, unfolding(crate::specs::Convolutions::convolution_of))]
+pub fn convolution_in(line: &[u8]) -> Option<Convolution>
+    ensures { result ≡ convolution_in (split 9 line.now) }
 {
     let kernel = ordered(whole_at(line, 6), whole_at(line, 7));
-    convolution_at(line, divisor_field(kernel))
-}
-
-// Whether the fields behind the numbers are of the form.
-fn behind_given(line: &[u8], d: usize) -> bool
-    requires { d ≤ 33 }
-    ensures { result ≡ behind? (split 9 line.now) d }
-{
-    both(
-        whole_given(line, d + 2),
-        both(
-            whole_given(line, d + 3),
-            both(is_truth(field(line, d + 4)), is_edge(field(line, d + 5))),
-        ),
-    )
-}
-
-// Orders of 1 to 5, and target, preserve-alpha and edge mode of the form.
-pub fn is_kernel(convolution: Convolution, line: &[u8]) -> bool
-    ensures { result ≡ kernel? convolution (split 9 line.now) }
-{
-    both(
-        orders_allowed(convolution),
-        behind_given(line, divisor_field(convolution)),
-    )
+    if !orders_allowed(kernel) {
+        return None;
+    }
+    let d = divisor_field(kernel);
+    Some(Convolution {
+        divided: 0 < field(line, d).len(),
+        column: whole_field(line, d + 2)?,
+        row: whole_field(line, d + 3)?,
+        preserve: truth_in(field(line, d + 4))?,
+        edge: edge_in(field(line, d + 5))?,
+        ..kernel
+    })
 }

@@ -14,24 +14,18 @@ use pixel::{Convolution, Transfers};
 fn curve_heads(transfers: Transfers, i: usize) -> usize
     ensures { (result ≡ curve_heads transfers i) × (result ≤ 8) }
 {
-    let r = transfers.r;
-    let g = transfers.g;
-    let b = transfers.b;
-    let a = transfers.a;
+    let Transfers { r, g, b, a } = transfers;
     let numbers = curve_numbers(transfers);
-    let first = numbers.first;
     let red = head_of(r);
-    if i < first.end {
+    if i < numbers.first.end {
         return red;
     }
-    let second = numbers.second;
     let green = red + head_of(g);
-    if i < second.end {
+    if i < numbers.second.end {
         return green;
     }
-    let third = numbers.third;
     let blue = green + head_of(b);
-    if i < third.end {
+    if i < numbers.third.end {
         return blue;
     }
     blue + head_of(a)
@@ -41,9 +35,7 @@ fn map_heads(map: Map, i: usize) -> usize
     ensures { (result ≡ map_heads map i) × (result ≤ 8) }
 {
     match map {
-        Map::Matrix => 0,
-        Map::Saturate => 0,
-        Map::Luminance => 0,
+        Map::Matrix | Map::Saturate | Map::Luminance => 0,
         Map::Curve(transfers) => curve_heads(transfers, i),
     }
 }
@@ -52,10 +44,7 @@ fn map_heads(map: Map, i: usize) -> usize
 fn convolution_heads(convolution: Convolution, i: usize) -> usize
     ensures { (result ≡ convolution_heads convolution i) × (result ≤ 8) }
 {
-    if i < values_in(convolution) {
-        return 2;
-    }
-    if convolution.divided {
+    if i < values_in(convolution) || convolution.divided {
         return 2;
     }
     3
@@ -66,13 +55,9 @@ fn heads_to(kind: Kind, i: usize) -> usize
     ensures { (result ≡ heads_to kind i) × (result ≤ 8) }
 {
     match kind {
-        Kind::Flood(_, _, _) => 0,
-        Kind::Offset => 0,
-        Kind::Pass(_) => 0,
         Kind::Map(map) => map_heads(map, i),
-        Kind::Pair(_) => 0,
-        Kind::Merge(_) => 0,
         Kind::Convolve(convolution) => convolution_heads(convolution, i),
+        Kind::Flood(_, _, _) | Kind::Offset | Kind::Pass(_) | Kind::Pair(_) | Kind::Merge(_) => 0,
     }
 }
 
@@ -88,13 +73,8 @@ fn behind_of(kind: Kind) -> usize
     ensures { (result ≡ behind_of kind) × (result ≤ 4) }
 {
     match kind {
-        Kind::Flood(_, _, _) => 0,
-        Kind::Offset => 0,
-        Kind::Pass(_) => 0,
-        Kind::Map(_) => 0,
-        Kind::Pair(_) => 0,
-        Kind::Merge(_) => 0,
         Kind::Convolve(_) => 4,
+        _ => 0,
     }
 }
 

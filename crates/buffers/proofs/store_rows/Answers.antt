@@ -5,21 +5,11 @@ use native.Mathlib.Omega.{arith}
 use Rattle.buffers.specs.Strip.{strip_at}
 use Rattle.pixel.proofs.PaintedRows.{painted-as}
 use Rattle.buffers.proofs.RowsFit.{strip-row-room}
-use Rattle.buffers.proofs.DrawnRows.{drawn-none, drawn-as, drawn-more}
+use Rattle.buffers.proofs.DrawnRows.{drawn-none, drawn-all, drawn-more}
 use Rattle.buffers.proofs.store_rows.Goals as goal
 
 pub loop-y-init : goal.loop-y-init
 loop-y-init c = (omega arith, omega arith, drawn-none _ _ _ _ _ _ (λ x y i. absurd (omega (arith, i.top, i.bottom))))
-
-pub overflow_mul-from : goal.overflow_mul-from
-overflow_mul-from c =
-    let a = c.args in
-    omega (arith, strip-row-room c.loop-y.y a.first a.rect.bottom (a.rect.right - a.rect.left) (omega arith) (omega arith))
-
-pub overflow_add-from : goal.overflow_add-from
-overflow_add-from c =
-    let a = c.args in
-    omega (arith, strip-row-room c.loop-y.y a.first a.rect.bottom (a.rect.right - a.rect.left) (omega arith) (omega arith))
 
 pub store-requires : goal.store-requires
 store-requires c =
@@ -36,10 +26,5 @@ loop-y-preserved c =
     let L = c.loop-y in
     (omega arith, omega arith, drawn-more _ _ _ _ _ _ _ _ _ _ _ L.invariant.2 (painted-as _ _ _ _ _ _ _ (λ x l m. refl) c.store.ensures) L.invariant.0 (omega arith) (omega arith) (omega arith))
 
-pub shape_of-workspace : goal.shape_of-workspace
-shape_of-workspace c = c.loop-y.invariant.2.long
-
 pub returns : goal.returns
-returns c =
-    let L = c.loop-y in
-    drawn-as _ _ _ _ _ _ _ _ (λ x y i. record { left = i.left; right = i.right; top = i.top; bottom = omega (arith, i.bottom, i.top, L.invariant.1) }) (λ x y i. record { left = i.left; right = i.right; top = i.top; bottom = omega (arith, i.bottom, c.loop-y-test.false) }) L.invariant.2
+returns c = drawn-all _ _ _ c.args.rect _ _ _ _ c.loop-y.invariant.1 (omega arith) c.loop-y.invariant.2

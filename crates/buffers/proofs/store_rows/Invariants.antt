@@ -6,4 +6,4 @@ use Rattle.buffers.proofs.store_rows.Given as goal
 
 abbrev pub invariant-loop-y : goal.invariant-loop-y
 invariant-loop-y l =
-    (l.top ≤ l.y) × (l.y ≤ max l.top l.bottom) × DrawnIn l.context (band l.left l.right l.top l.y) (strip_at l.strip l.at l.left l.right l.first) l.initial.workspace l.workspace
+    (l.rect.top ≤ l.y) × (l.y ≤ max l.rect.top l.rect.bottom) × DrawnIn l.context (band l.rect.left l.rect.right l.rect.top l.y) (strip_at l.strip l.at l.rect.left l.rect.right l.first) l.initial.workspace l.workspace

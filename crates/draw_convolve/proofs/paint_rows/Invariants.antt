@@ -1,7 +1,4 @@
-use Prim.Native.Nat.{◌≤◌, max}
-use mathlib.Core.Path.{◌≡◌}
-use lib.ListN.{length}
-use Rattle.kernel_lines.specs.Lines.{all_lines}
+use Rattle.std.proofs.Common.{◌≤◌, max}
 use Rattle.filter.specs.Picture.{Picture}
 use Rattle.buffers.specs.Drawn.{band}
 use Rattle.draw_convolve.specs.Convolved.{RectConvolved}
@@ -9,7 +6,8 @@ use Rattle.draw_convolve.specs.Staged.{ScratchHolds}
 use Rattle.draw_convolve.proofs.paint_rows.Given as goal
 
 abbrev pub invariant-loop-y : goal.invariant-loop-y
-invariant-loop-y l =
-    (l.top ≤ l.y) × (l.y ≤ max l.top l.bottom) × (length l.workspace ≡ length l.initial.workspace) × (length l.lines ≡ all_lines)
-    × ((g : Picture) → ScratchHolds l.context.w l.context.h l.convolution l.top l.bottom g l.scratch
-    → RectConvolved l.context l.convolution l.values g (band l.left l.right l.top l.y) l.initial.workspace l.workspace)
+invariant-loop-y l = record {
+  within : l.y ≤ max l.top l.bottom;
+  drawn : (g : Picture) → ScratchHolds l.context.w l.context.h l.kernel.convolution l.top l.bottom g l.scratch
+      → RectConvolved l.context l.kernel.convolution l.kernel.values g (band l.left l.right l.top l.y) l.initial.workspace l.workspace;
+}

@@ -1,12 +1,9 @@
 -- `draw_morph::extreme_down` meets its contract: the lines of a strip are its rows. Assumes nothing.
-use mathlib.Core.Logic.{inl, ⊎_elim}
+use mathlib.Core.Logic.{⊎_elim}
 use native.Mathlib.Omega.{arith}
 use Rattle.draw_window.proofs.StripRows.{whole-pixels}
 use Rattle.draw_morph.proofs.ExtremeBanded.{worked-extremes}
 use Rattle.draw_morph.proofs.extreme_down.Goals as goal
-
-pub extreme_lines-here-requires : goal.extreme_lines-here-requires
-extreme_lines-here-requires c = (omega arith, omega arith, inl (omega arith), omega arith, omega arith, omega arith)
 
 pub returns : goal.returns
 returns c =

@@ -1,20 +1,11 @@
 -- `draw_morph::extreme_row` meets its contract: the worked row lies in one of the two halves, and its pixels are copied. Assumes nothing.
 use Prim.Native.Nat.{◌+◌, ◌-◌, ◌*◌, ◌/◌}
-use mathlib.Core.Logic.{inl, ⊎_elim}
 use native.Mathlib.Omega.{arith}
 use Rattle.pixel.proofs.PaintedRows.{painted-as}
 use Rattle.draw_window.proofs.PixelChannels.{row-pixel}
 use Rattle.draw_window.proofs.StripRows.{whole-pixels}
 use Rattle.draw_morph.proofs.ExtremeBanded.{worked-extremes}
 use Rattle.draw_morph.proofs.extreme_row.Goals as goal
-
-pub extreme_lines-here-requires : goal.extreme_lines-here-requires
-extreme_lines-here-requires c = (omega arith, omega arith, inl (omega arith), omega arith, omega arith, omega arith)
-
-pub copy_pixels-requires : goal.copy_pixels-requires
-copy_pixels-requires c =
-    let K = c.extreme_lines-here.ensures in
-    (omega arith, omega arith, ⊎_elim (λ e. omega (arith, e, K.long)) (λ e. omega (arith, e, K.long)) K.place)
 
 pub returns : goal.returns
 returns c =

@@ -1,15 +1,11 @@
 -- `draw_point::paint_rows` meets its contract: each turn draws one row more, worked from inputs that the rows before left alone.
 -- Assumes nothing.
 use Prim.Native.Nat.{◌<◌}
-use mathlib.Core.Path.{sym, ◌∙◌}
+use mathlib.Core.Path.{◌∙◌}
 use native.Mathlib.Omega.{arith}
-use Rattle.buffers.proofs.DrawnRows.{drawn-none, drawn-as, drawn-more}
+use Rattle.buffers.proofs.DrawnRows.{drawn-more}
 use Rattle.draw_point.proofs.KindlessShapes.{workable-later, row-later}
 use Rattle.draw_point.proofs.paint_rows.Goals as goal
-
-pub loop-y-init : goal.loop-y-init
-loop-y-init c =
-    (omega arith, omega arith, drawn-none _ _ _ _ _ _ (λ x y i. absurd (omega (arith, i.top, i.bottom))), c.requires.work_row.0, c.requires.work_row.1, c.requires.work_row.2)
 
 pub paint-requires : goal.paint-requires
 paint-requires c =
@@ -19,10 +15,6 @@ paint-requires c =
     let W = workable-later a.context _ _ a.source.now a.workspace.now L.workspace a.shape I.2 a.pairs.now c.requires.workable.0 in
     let high : L.y < a.context.h = omega (arith, c.loop-y-test.true, c.requires.within.0.bottom) in
     record { workable = (W, c.requires.workable.1, record { high = high; order = c.requires.within.1; wide = c.requires.within.0.right }); work_row = (I.3, I.4, I.5) }
-
-pub overflow_step-y : goal.overflow_step-y
-overflow_step-y c =
-    omega (arith, c.loop-y-test.true, c.requires.within.0.bottom, c.requires.workable.0.drawable.readable.sized.high)
 
 pub loop-y-preserved : goal.loop-y-preserved
 loop-y-preserved c =
@@ -38,31 +30,3 @@ loop-y-preserved c =
       c.paint.auto.g ∙ I.4,
       c.paint.auto.row ∙ I.5,
     )
-
-pub shape_of-workspace : goal.shape_of-workspace
-shape_of-workspace c =
-    let L = c.loop-y in
-    L.invariant.2.long
-
-pub shape_of-a : goal.shape_of-a
-shape_of-a c =
-    let L = c.loop-y in
-    L.invariant.3 ∙ sym c.requires.work_row.0
-
-pub shape_of-g : goal.shape_of-g
-shape_of-g c =
-    let L = c.loop-y in
-    L.invariant.4 ∙ sym c.requires.work_row.1
-
-pub shape_of-row : goal.shape_of-row
-shape_of-row c =
-    let L = c.loop-y in
-    L.invariant.5 ∙ sym c.requires.work_row.2
-
-pub returns : goal.returns
-returns c =
-    let L = c.loop-y in
-    drawn-as _ _ _ _ _ _ _ _
-    (λ x y i. record { left = i.left; right = i.right; top = i.top; bottom = omega (arith, i.bottom, i.top, L.invariant.1) })
-    (λ x y i. record { left = i.left; right = i.right; top = i.top; bottom = omega (arith, i.bottom, c.loop-y-test.false) })
-    L.invariant.2

@@ -7,5 +7,5 @@ pub returns : goal.returns
 unfolding by_arithmetic
 returns c =
     painted-as _ _ _ _ _ _ _
-    (λ x l h. rw (c.lesser_byte-red.ensures, c.lesser_byte-green.ensures, c.lesser_byte-blue.ensures, c.look.ensures, c.look-2.ensures, c.look-3.ensures, c.look-alpha.ensures))
+    (λ x l h. rw (c.min-red.ensures, c.min-green.ensures, c.min-blue.ensures, c.look.ensures, c.look-2.ensures, c.look-3.ensures, c.look-alpha.ensures))
     c.put.ensures

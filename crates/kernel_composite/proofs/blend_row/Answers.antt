@@ -1,17 +1,9 @@
 -- `kernel_composite::blend_row` meets its contract: the factors as weights, and one law that turns the blended bytes into pixels.
 -- Assumes nothing.
 use mathlib.Core.Path.{refl}
-use borrow.Author.Rules.{rules}
 use Rattle.pixel.specs.declared.Operator.TheVariants.{Over, In, Out, Atop, Xor}
-use Rattle.kernel_composite.proofs.BlendedIsComposited.{weights, weights-a, weights-b, fitting, fitting-alone, blended-painted, scaled-blended}
+use Rattle.kernel_composite.proofs.BlendedIsComposited.{weights, weights-a, weights-b, fitting, blended-painted, scaled-blended}
 use Rattle.kernel_composite.proofs.blend_row.Goals as goal
-
-pub lay-requires : goal.lay-requires
-lay-requires c =
-    let a = c.args.a.now in
-    let b = c.args.b.now in
-    let w = weights-b Over a b _ _ _ (rw c.in-Over.is at c.requires.valid_row.2) (λ x y. refl) refl in
-    record { a_len = search rules; fitting = fitting Over a b (λ _. 255) _ _ w (λ i. (c.type_inv.a i).fits) (λ i. (c.type_inv.b i).fits) c.requires.valid_row.0 c.requires.valid_row.1 }
 
 pub returns-in-Over : goal.returns-in-Over
 returns-in-Over c =
@@ -20,26 +12,12 @@ returns-in-Over c =
     let told = c.in-Over.is in
     rw told (blended-painted Over a b (λ _. 255) _ _ (weights-b Over a b _ _ _ (rw told at c.requires.valid_row.2) (λ x y. refl) refl) _ _ c.lay.ensures)
 
-pub scale-requires : goal.scale-requires
-scale-requires c =
-    let a = c.args.a.now in
-    let b = c.args.b.now in
-    let w = weights-a In a b _ _ _ (rw c.in-In.is at c.requires.valid_row.2) refl (λ x y. refl) in
-    record { a_len = search rules; fitting = fitting-alone a b _ _ (fitting In a b _ (λ _. 0) _ w (λ i. (c.type_inv.a i).fits) (λ i. (c.type_inv.b i).fits) c.requires.valid_row.0 c.requires.valid_row.1) }
-
 pub returns-in-In : goal.returns-in-In
 returns-in-In c =
     let a = c.args.a.now in
     let b = c.args.b.now in
     let told = c.in-In.is in
     rw told (blended-painted In a b _ (λ _. 0) _ (weights-a In a b _ _ _ (rw told at c.requires.valid_row.2) refl (λ x y. refl)) _ _ (scaled-blended a b _ _ _ _ c.scale.ensures))
-
-pub scale-requires-in-Out : goal.scale-requires-in-Out
-scale-requires-in-Out c =
-    let a = c.args.a.now in
-    let b = c.args.b.now in
-    let w = weights-a Out a b _ _ _ (rw c.in-Out.is at c.requires.valid_row.2) refl (λ x y. refl) in
-    record { a_len = search rules; fitting = fitting-alone a b _ _ (fitting Out a b _ (λ _. 0) _ w (λ i. (c.type_inv.a i).fits) (λ i. (c.type_inv.b i).fits) c.requires.valid_row.0 c.requires.valid_row.1) }
 
 pub returns-in-Out : goal.returns-in-Out
 returns-in-Out c =
@@ -48,13 +26,6 @@ returns-in-Out c =
     let told = c.in-Out.is in
     rw told (blended-painted Out a b _ (λ _. 0) _ (weights-a Out a b _ _ _ (rw told at c.requires.valid_row.2) refl (λ x y. refl)) _ _ (scaled-blended a b _ _ _ _ c.scale-in-Out.ensures))
 
-pub mix-requires : goal.mix-requires
-mix-requires c =
-    let a = c.args.a.now in
-    let b = c.args.b.now in
-    let w = weights Atop a b _ _ _ (rw c.in-Atop.is at c.requires.valid_row.2) refl refl in
-    record { a_len = search rules; fitting = fitting Atop a b _ _ _ w (λ i. (c.type_inv.a i).fits) (λ i. (c.type_inv.b i).fits) c.requires.valid_row.0 c.requires.valid_row.1 }
-
 pub returns-in-Atop : goal.returns-in-Atop
 returns-in-Atop c =
     let a = c.args.a.now in
@@ -62,12 +33,12 @@ returns-in-Atop c =
     let told = c.in-Atop.is in
     rw told (blended-painted Atop a b _ _ _ (weights Atop a b _ _ _ (rw told at c.requires.valid_row.2) refl refl) _ _ c.mix.ensures)
 
-pub mix-requires-in-Xor : goal.mix-requires-in-Xor
-mix-requires-in-Xor c =
+pub mix-requires-in-Xor-clause-fitting : goal.mix-requires-in-Xor-clause-fitting
+mix-requires-in-Xor-clause-fitting c =
     let a = c.args.a.now in
     let b = c.args.b.now in
     let w = weights Xor a b _ _ _ (rw c.in-Xor.is at c.requires.valid_row.2) refl refl in
-    record { a_len = search rules; fitting = fitting Xor a b _ _ _ w (λ i. (c.type_inv.a i).fits) (λ i. (c.type_inv.b i).fits) c.requires.valid_row.0 c.requires.valid_row.1 }
+    fitting Xor a b _ _ _ w (λ i. (c.type_inv.a i).fits) (λ i. (c.type_inv.b i).fits) c.requires.valid_row.0 c.requires.valid_row.1
 
 pub returns-in-Xor : goal.returns-in-Xor
 returns-in-Xor c =

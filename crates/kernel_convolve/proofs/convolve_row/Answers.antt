@@ -5,4 +5,4 @@ use Rattle.kernel_convolve.proofs.convolve_row.Goals as goal
 pub returns : goal.returns
 returns c =
     let s = c.args in
-    convolved-row s.convolution s.values s.lines.now s.left s.count _ _ _ c.sums.ensures c.finish_row.ensures
+    convolved-row s.kernel.now.convolution s.kernel.now.values s.lines.now s.left s.count _ _ _ c.sums.ensures c.finish_row.ensures

@@ -1,7 +1,5 @@
 -- `kernel_lines::clear_line` meets its contract: pixels of the buffer are places of the line. Assumes nothing.
-use Prim.Native.Nat.{ℕ, ◌+◌, ◌*◌}
-use mathlib.Core.Path.{refl}
-use native.Mathlib.Omega.{arith}
+use Rattle.std.proofs.Common.{ℕ, ◌+◌, ◌*◌, refl, arith}
 use Rattle.window.specs.Limits.{longest_side}
 use Rattle.kernel_lines.proofs.ExtendedRows.{painted-from}
 use Rattle.kernel_lines.proofs.clear_line.Goals as goal

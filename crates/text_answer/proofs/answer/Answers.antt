@@ -2,17 +2,24 @@
 use mathlib.Core.Path.{refl, sym}
 use native.Mathlib.Omega.{arith}
 use lib.Seq.{length-take-le}
+use Rattle.std.specs.Prelude.{Result, Ok, Err, IfOk}
+use Rattle.text.specs.declared.Reading.{Reading}
+use Rattle.text.specs.declared.TextRefusal.{TextRefusal}
+use Rattle.text_answer.specs.Code.{ReadingWithin}
 use Rattle.text.specs.declared.Form.TheVariants as F
 use Rattle.filter.specs.Limits.{most_steps}
-use Rattle.text.proofs.ReadingBounded.{reading-bounded}
+use Rattle.text.proofs.ReadingBounded.{ReadingBounded, reading-bounded}
 use Rattle.text_answer.proofs.Printed.{put-fits, printed-length, printed-stored, printed-kept}
 use Rattle.text_answer.proofs.answer.Goals as goal
+
+within : (r : Result Reading TextRefusal) → IfOk r ReadingBounded → IfOk r ReadingWithin
+within (Ok r) B = record { wide = B.wide; high = B.high; few = B.few; pixels = B.pixels }
+within (Err e) B = tt
 
 pub print_reading-n-requires : goal.print_reading-n-requires
 print_reading-n-requires c =
     let e = c.scan.ensures in
-    let B = reading-bounded F.Sheet c.args.text.now most_steps in
-    (e, rw e record { wide = B.wide; high = B.high; few = B.few; pixels = B.pixels }, refl)
+    (e, rw e (within _ (reading-bounded F.Sheet c.args.text.now most_steps)), refl)
 
 pub slice_bounds-printed-end : goal.slice_bounds-printed-end
 slice_bounds-printed-end c = put-fits c.print_reading-n.ensures

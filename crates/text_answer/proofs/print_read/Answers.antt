@@ -4,14 +4,11 @@ use Prim.Native.Nat.{ℕ}
 use native.Mathlib.Omega.{arith}
 use lib.ListN.{take}
 use lib.Seq.{length-take-le}
-use Rattle.text.specs.declared.Reading.{Reading}
+use Rattle.text.specs.Reading.{count_of}
 use Rattle.text_print.proofs.PutTexts.{put_as}
 use Rattle.text_answer.specs.Answer.{sheet_text}
 use Rattle.text_answer.proofs.BuffersSuffice.{size-le}
 use Rattle.text_answer.proofs.print_read.Goals as goal
-
-pub space_of-space-requires : goal.space_of-space-requires
-space_of-space-requires c = let e = c.requires.0 in (ap (λ (r : Reading). r.from) e, ap (λ (r : Reading). r.count) e)
 
 pub slice_bounds-pixels-end : goal.slice_bounds-pixels-end
 slice_bounds-pixels-end c =
@@ -23,7 +20,7 @@ slice_bounds-print_sheet-end c =
 
 pub print_sheet-requires : goal.print_sheet-requires
 print_sheet-requires c =
-    record { width_le_longest_text_side = (c.requires.1.wide, c.requires.1.high, ap (λ (r : Reading). r.count) c.requires.0); count_le_most_steps = (c.requires.1.few, c.requires.2, c.space_of-space.ensures) }
+    record { width_le_longest_text_side = (c.requires.1.wide, c.requires.1.high, sym (ap count_of c.requires.0)); count_le_most_steps = (c.requires.1.few, c.requires.2, c.space_of-space.ensures) }
 
 pub returns : goal.returns
 returns c =

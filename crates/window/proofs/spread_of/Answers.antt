@@ -10,4 +10,4 @@ returns-then-d-eq1 c = (rw (eq-eqb _ _ c.if-d-eq1.true), omega arith)
 
 pub returns : goal.returns
 unfolding spread
-returns c = (rw (ne_eqb _ _ c.if-d-eq1.false) c.less.ensures, omega arith)
+returns c = (rw (ne_eqb _ _ c.if-d-eq1.false) c.saturating_sub.ensures, omega arith)

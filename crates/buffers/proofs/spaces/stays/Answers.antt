@@ -1,19 +1,11 @@
--- `buffers::spaces::stays` meets its contract, input by input. Assumes nothing.
-use mathlib.Core.Path.{ap}
-use mathlib.Core.Bool.{not}
+use Rattle.std.proofs.Common.{rules}
 use Rattle.buffers.specs.Seen.{stays?}
 use Rattle.buffers.proofs.spaces.stays.Goals as goal
 
-pub returns-in-Source : goal.returns-in-Source
+pub returns-then-matches : goal.returns-then-matches
 unfolding stays?
-returns-in-Source c = rw c.in-Source.is
+returns-then-matches c = search rules
 
-pub returns-in-SourceAlpha : goal.returns-in-SourceAlpha
+pub returns-else-matches : goal.returns-else-matches
 unfolding stays?
-returns-in-SourceAlpha c = rw c.in-SourceAlpha.is
-
-pub returns-in-Layer : goal.returns-in-Layer
-unfolding stays?
-returns-in-Layer c =
-    let told = c.in-Layer.is in
-    rw told (rw told at (ap not c.converts.ensures))
+returns-else-matches c = search rules

@@ -1,7 +1,6 @@
 -- `capi::drawing::call_lines` meets its contract: what `draw_lines` promises, by the answer. Assumes nothing.
 use mathlib.Core.Path.{◌≡◌, ap, ◌∙◌}
-use Rattle.filter.specs.declared.Answer.{Answer}
-use Rattle.filter.specs.Answers.{accepted?}
+use Rattle.filter.specs.Answers.{Answer, accepted?}
 use Rattle.text.specs.declared.Form.TheVariants as F
 use Rattle.render.specs.Promise.{if_accepted, zeros}
 use Rattle.lines.specs.Lines.{giving_text, answer_in, worked_in, layers_in}

@@ -1,9 +1,6 @@
-use mathlib.Core.Path.{◌≡◌}
-use Prim.Native.Nat.{◌≤◌}
-use lib.ListN.{length, get_or}
-use Rattle.pixel.specs.Alpha.{premultiplied}
 use Rattle.window.specs.Store.{Filled}
+use Rattle.kernel_alpha.specs.Code.{scaled_by}
 use Rattle.kernel_alpha.proofs.premultiply.scale_row.Given as goal
 
 abbrev pub invariant-loop-i : goal.invariant-loop-i
-invariant-loop-i l = (l.i ≤ length l.initial.d) × (l.i-end ≡ length l.initial.d) × Filled (λ j. premultiplied (get_or l.initial.d j 0) (get_or l.f j 0)) 0 l.i l.initial.d l.d
+invariant-loop-i l = Filled (scaled_by l.initial.d l.f) 0 l.i l.initial.d l.d

@@ -1,26 +1,10 @@
 -- `kernel_alpha::unpremultiply::unpremultiply_row` meets its contract: one pixel more in each turn; the pixel read is still the old one. Assumes nothing.
-use mathlib.Core.Path.{◌≡◌, ◌∙◌, ap}
+use mathlib.Core.Path.{◌∙◌, ap}
 use Prim.Native.Nat.{◌+◌, ◌*◌}
 use native.Mathlib.Omega.{arith}
 use Rattle.pixel.specs.Alpha.{straight}
-use Rattle.pixel.proofs.PaintedRows.{pixel-same, painted-none, painted-more}
+use Rattle.pixel.proofs.PaintedRows.{pixel-same, painted-more}
 use Rattle.kernel_alpha.proofs.unpremultiply.unpremultiply_row.Goals as goal
-
-pub loop-x-init : goal.loop-x-init
-loop-x-init c = (omega arith, painted-none _ _ _ _)
-
-pub word-v-requires : goal.word-v-requires
-word-v-requires c = omega (arith, c.loop-x.invariant.1.long)
-
-pub straight_word-requires : goal.straight_word-requires
-straight_word-requires c =
-    let L = c.loop-x in
-    let i = 4 * L.x in
-    let old = pixel-same L.row c.args.row.now i i (λ k l. L.invariant.1.after (i + k) (omega arith)) in
-    (c.requires.0, rw (c.word-v.ensures.holds ∙ old) (c.requires.2.valid L.x c.loop-x-test.true))
-
-pub put-requires : goal.put-requires
-put-requires c = omega (arith, c.loop-x.invariant.1.long)
 
 pub loop-x-preserved : goal.loop-x-preserved
 loop-x-preserved c =
@@ -30,11 +14,3 @@ loop-x-preserved c =
     let old = pixel-same L.row s.row.now i i (λ k l. L.invariant.1.after (i + k) (omega arith)) in
     let e = c.straight_word.ensures.holds ∙ ap straight (c.word-v.ensures.holds ∙ old) in
     (omega arith, painted-more _ _ _ _ _ _ _ _ _ (omega arith) (omega arith) e L.invariant.1 c.put.ensures)
-
-pub shape_of-row : goal.shape_of-row
-shape_of-row c = c.loop-x.invariant.1.long
-
-pub returns : goal.returns
-returns c =
-    let e : c.loop-x.x ≡ c.args.n = omega arith in
-    rw (← e) c.loop-x.invariant.1

@@ -1,6 +1,9 @@
-use Prim.Native.Nat.{◌≤◌}
+use Rattle.std.proofs.Common.{take, ◌≤◌}
 use Rattle.kernel_convolve.specs.Code.{Gathered}
 use Rattle.kernel_convolve.proofs.prepare.gather.Given as goal
 
 abbrev pub invariant-loop-t : goal.invariant-loop-t
-invariant-loop-t l = (l.t ≤ l.cells) × Gathered l.convolution l.values l.below l.t l.n l.weights l.offsets
+invariant-loop-t l = record {
+  gathered : Gathered l.kernel.convolution l.kernel.values l.below l.t (take l.n l.room);
+  fewer : l.n ≤ l.t;
+}

@@ -1,31 +1,26 @@
--- `kernel_fold::line::fold_line_twice` meets its contract: the four lines that two growths read lie apart from the line that is stored.
--- Assumes nothing.
-use Prim.Native.Nat.{ℕ, ◌+◌, ◌*◌, ◌≤◌}
-use mathlib.Core.Path.{◌≡◌}
+-- `fold_line_twice` meets its contract: the four lines that two growths read lie apart from the line that is stored. Assumes nothing.
+use mathlib.Core.Path.{refl}
 use native.Mathlib.Omega.{arith}
 use Rattle.kernel_fold.specs.Operation.{operation}
-use Rattle.kernel_fold.specs.Ranges.{Foldable}
-use Rattle.kernel_fold.proofs.FoldedTwice.{line-readable, line-twice}
+use Rattle.kernel_fold.proofs.Semilattices.{lattice}
+use Rattle.kernel_fold.proofs.Foldables.{four}
+use Rattle.kernel_fold.proofs.FoldedTwice.{line-twice}
 use Rattle.kernel_fold.proofs.line.fold_line_twice.Goals as goal
 
-pub fold_four-requires : goal.fold_four-requires
-fold_four-requires c =
-    let a = c.args in
-    let p = c.requires in
-    let at = c.line_at.ensures in
-    let low : a.to ≤ c.line_at.result = omega (arith, at.0) in
-    let reads : (k r : ℕ) → (r ≡ a.from + k * a.n) × (r + a.n ≤ a.from + a.count * a.n) → Foldable r c.line_at.result a.n a.buf.now
-    = (λ k r h. line-readable a.from a.to (a.count * a.n) a.n r c.line_at.result a.buf.now (omega (arith, h.0)) h.1 p.0 low at.1 p.2) in (
-      reads _ _ c.line_at-a.ensures,
-      reads _ _ c.line_at-b.ensures,
-      reads _ _ c.line_at-c.ensures,
-      reads _ _ c.line_at-d.ensures,
-      omega (arith, at.1, p.1),
+pub fold_bytes-requires : goal.fold_bytes-requires
+fold_bytes-requires c =
+    let at = c.line_at-to.ensures in (
+      omega arith,
+      four c.args.lines c.args.buf.now _ c.requires.0 refl _ _ (omega (arith, at.0), at.1) _ _ _ _
+          (omega (arith, c.line_at-a.ensures.0), c.line_at-a.ensures.1)
+          (omega (arith, c.line_at-b.ensures.0), c.line_at-b.ensures.1)
+          (omega (arith, c.line_at-c.ensures.0), c.line_at-c.ensures.1)
+          (omega (arith, c.line_at-d.ensures.0), c.line_at-d.ensures.1),
     )
 
 pub returns : goal.returns
 returns c =
-    line-twice (operation c.args.op) _ _ _ _ _ _ _ _ _ _ _ _ _ _ _ _ _ _ _ _ _ _
+    line-twice (operation c.args.op) (lattice c.args.op) _ _ _ _ _ _ _ _ _ _ _ _ _ _ _ _ _ _ _ _ _ _
     c.earlier_line-y.ensures.0
     c.later_line-z.ensures.0
     c.earlier_line.ensures.0
@@ -36,5 +31,5 @@ returns c =
     c.line_at-b.ensures.0
     c.line_at-c.ensures.0
     c.line_at-d.ensures.0
-    c.line_at.ensures.0
-    c.fold_four.ensures
+    c.line_at-to.ensures.0
+    c.fold_bytes.ensures

@@ -1,28 +1,14 @@
 -- `kernel_matrix::matrix::prepare` meets its contract: one store more in each turn, and the entries as the record has them. Assumes nothing.
 use mathlib.Core.Path.{◌≡◌}
-use Prim.Native.Nat.{◌<◌}
-use lib.ListN.{length}
 use native.Mathlib.Omega.{arith}
-use Rattle.window.proofs.Store.{filled_none, filled_more}
+use Rattle.window.proofs.Store.{filled_more}
 use Rattle.kernel_matrix.proofs.BiasedProducts.{matrix-table-of}
 use Rattle.kernel_matrix.proofs.matrix.prepare.Goals as goal
 
-pub loop-i-init : goal.loop-i-init
-loop-i-init c = (omega arith, filled_none _ _ _)
-
-pub bounds-table-i : goal.bounds-table-i
-bounds-table-i c = omega (arith, c.loop-i.invariant.1.long)
-
 pub loop-i-preserved : goal.loop-i-preserved
-loop-i-preserved c =
-    let L = c.loop-i in
-    let h : L.i < length c.args.table.now = omega arith in
-    (omega arith, filled_more _ _ _ _ _ _ (omega arith) h c.entry.ensures L.invariant.1)
-
-pub shape_of-table : goal.shape_of-table
-shape_of-table c = c.loop-i.invariant.1.long
+loop-i-preserved c = filled_more _ _ _ _ _ _ (omega arith) (omega arith) c.entry.ensures c.loop-i.invariant
 
 pub returns : goal.returns
 returns c =
     let e : c.loop-i.i ≡ 4096 = omega arith in
-    matrix-table-of _ _ _ c.requires.0 (rw e at c.loop-i.invariant.1)
+    matrix-table-of _ _ _ c.requires.0 (rw e at c.loop-i.invariant)

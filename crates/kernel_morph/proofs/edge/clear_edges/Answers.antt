@@ -1,39 +1,15 @@
--- `kernel_morph::edge::clear_edges` meets its contract: the first and the last lines are two ranges of bytes. Assumes nothing.
-use Prim.Native.Nat.{◌*◌, ◌≤◌}
-use native.Mathlib.Omega.{arith}
+-- `clear_edges` meets its contract: the first and the last lines are two ranges of bytes. Assumes nothing.
+use Prim.Native.Nat.{◌+◌, ◌-◌, ◌*◌, ◌≤◌}
 use native.Mathlib.Nat.{mul-le-mul_right}
+use native.Mathlib.Omega.{arith}
+use Rattle.kernel_morph.proofs.Zeros.{zeros}
 use Rattle.kernel_morph.proofs.PingPongGrowth.{cleared}
 use Rattle.kernel_morph.proofs.edge.clear_edges.Goals as goal
 
-pub overflow_mul-first : goal.overflow_mul-first
-overflow_mul-first c =
-    let first-in : c.lesser.result * c.args.n ≤ c.args.count * c.args.n = mul-le-mul_right c.args.n (omega (arith, c.lesser.ensures)) in
-    omega (arith, first-in)
-
-pub overflow_mul-last : goal.overflow_mul-last
-overflow_mul-last c =
-    let last-in : c.lesser-2.result * c.args.n ≤ c.args.count * c.args.n = mul-le-mul_right c.args.n (omega (arith, c.lesser-2.ensures)) in
-    omega (arith, last-in)
-
-pub overflow_add-o : goal.overflow_add-o
-overflow_add-o c =
-    let first-in : c.lesser.result * c.args.n ≤ c.args.count * c.args.n = mul-le-mul_right c.args.n (omega (arith, c.lesser.ensures)) in
-    omega (arith, first-in)
-
-pub clear-requires : goal.clear-requires
-clear-requires c =
-    let first-in : c.lesser.result * c.args.n ≤ c.args.count * c.args.n = mul-le-mul_right c.args.n (omega (arith, c.lesser.ensures)) in
-    (omega arith, omega (arith, first-in))
-
-pub overflow_sub-end : goal.overflow_sub-end
-overflow_sub-end c =
-    let first-in : c.lesser.result * c.args.n ≤ c.args.count * c.args.n = mul-le-mul_right c.args.n (omega (arith, c.lesser.ensures)) in
-    let last-in : c.lesser-2.result * c.args.n ≤ c.args.count * c.args.n = mul-le-mul_right c.args.n (omega (arith, c.lesser-2.ensures)) in
-    omega (arith, first-in, last-in)
-
-pub clear-requires-2 : goal.clear-requires-2
-clear-requires-2 c = (omega arith, omega (arith, c.clear.ensures.long))
-
 pub returns : goal.returns
 returns c =
-    cleared _ _ _ _ _ _ _ _ _ _ c.lesser.ensures c.lesser-2.ensures c.clear.ensures c.clear-2.ensures
+    let a = c.args in
+    let room : c.min.result * a.n ≤ a.count * a.n = mul-le-mul_right a.n (omega (arith, c.min.ensures)) in
+    let F = zeros a.o (a.o + c.min.result * a.n) a.buf.now c.fill.new.self (omega arith) (omega (arith, room)) (c.fill.ensures.after (λ y e. e)) in
+    cleared _ _ _ _ _ _ _ _ _ _ c.min.ensures c.min-2.ensures F
+    (zeros (a.o + a.count * a.n - c.min-2.result * a.n) (a.o + a.count * a.n) _ c.fill-2.new.self (omega arith) (omega (arith, F.long)) (c.fill-2.ensures.after (λ y e. e)))

@@ -2,8 +2,8 @@ use Prim.Native.Nat.{◌+◌, ◌-◌}
 use Rattle.kernel_morph.proofs.PingPongGrowth.{Standing}
 use Rattle.kernel_morph.proofs.growth.grow_windows.Given as goal
 
-abbrev pub invariant-loop-p : goal.invariant-loop-p
-invariant-loop-p l = Standing l.op l.a l.b l.n l.count l.back l.ahead l.here l.there l.p l.q l.initial.buf l.buf
+abbrev pub invariant-loop-now : goal.invariant-loop-now
+invariant-loop-now l = Standing l.op l.fn.lines l.whole l.way l.now l.fn.buf l.buf
 
-abbrev pub decreases-loop-p : goal.decreases-loop-p
-decreases-loop-p l = l.back + l.ahead - (l.p + l.q)
+abbrev pub decreases-loop-now : goal.decreases-loop-now
+decreases-loop-now l = l.whole.back + l.whole.ahead - (l.now.back + l.now.ahead)

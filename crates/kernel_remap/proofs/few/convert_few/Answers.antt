@@ -5,22 +5,11 @@ use native.Mathlib.Omega.{arith}
 use Rattle.pixel.specs.Bytes.{pixel_at}
 use Rattle.pixel.specs.Remap.{remapped}
 use Rattle.pixel.specs.Space.{space_maps}
-use Rattle.pixel.proofs.PaintedRows.{pixel-same, painted-none, painted-more}
+use Rattle.pixel.proofs.PaintedRows.{pixel-same, painted-more}
 use Rattle.kernel_remap.proofs.few.convert_few.Goals as goal
-
-pub loop-x-init : goal.loop-x-init
-loop-x-init c = (omega arith, painted-none _ _ _ _)
 
 pub loop-x-preserved : goal.loop-x-preserved
 loop-x-preserved c =
     let a = c.args in
     let same : pixel_at c.loop-x.row (4 * c.loop-x.x) ≡ pixel_at a.row.now (4 * c.loop-x.x) = pixel-same c.loop-x.row a.row.now (4 * c.loop-x.x) (4 * c.loop-x.x) (λ k m. c.loop-x.invariant.1.after (4 * c.loop-x.x + k) (omega arith)) in
     (omega arith, painted-more _ _ 0 _ 0 c.loop-x.x _ _ _ (omega arith) (omega arith) (c.convert_at-v.ensures.holds ∙ ap (remapped (space_maps a.to)) same) c.loop-x.invariant.1 c.put.ensures)
-
-pub shape_of-row : goal.shape_of-row
-shape_of-row c = c.loop-x.invariant.1.long
-
-pub returns : goal.returns
-returns c =
-    let e : c.loop-x.x ≡ c.args.count = omega arith in
-    rw e at c.loop-x.invariant.1

@@ -1,12 +1,8 @@
 -- `kernel_remap::remap::prepare_maps` meets its contract: the lines of one alpha more in each turn. Assumes nothing.
 use mathlib.Core.Path.{◌≡◌, ◌∙◌}
 use native.Mathlib.Omega.{arith}
-use Rattle.kernel_remap.proofs.Remaps.{tables-filled-none, tables-filled-more, tables-filled-all}
-use borrow.Author.Rules.{rules}
+use Rattle.kernel_remap.proofs.Remaps.{tables-filled-more, tables-filled-all}
 use Rattle.kernel_remap.proofs.remap.prepare_maps.Goals as goal
-
-pub loop-a-init : goal.loop-a-init
-loop-a-init c = (omega arith, search rules, c.requires.2, tables-filled-none _ _ _ _)
 
 pub loop-a-preserved : goal.loop-a-preserved
 loop-a-preserved c =
@@ -14,9 +10,6 @@ loop-a-preserved c =
     let S = c.fill_unpremultiplied.ensures in
     let T = c.fill_tables.ensures in
     (omega arith, S.long ∙ L.invariant.1, T.long ∙ L.invariant.2, tables-filled-more _ _ _ _ _ L.a _ _ (omega arith) L.invariant.3 S T)
-
-pub shape_of-tables : goal.shape_of-tables
-shape_of-tables c = omega (arith, c.loop-a.invariant.2, c.requires.2)
 
 pub returns : goal.returns
 returns c =

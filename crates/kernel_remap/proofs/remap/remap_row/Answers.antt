@@ -1,15 +1,9 @@
 -- `kernel_remap::remap::remap_row` meets its contract: one pixel more in each turn. Assumes nothing.
-use mathlib.Core.Path.{◌≡◌, ◌∙◌, ap}
+use mathlib.Core.Path.{◌∙◌, ap}
 use native.Mathlib.Omega.{arith}
-use Rattle.pixel.proofs.PaintedRows.{painted-none, painted-more}
+use Rattle.pixel.proofs.PaintedRows.{painted-more}
 use Rattle.kernel_remap.specs.Remaps.{looked_up}
 use Rattle.kernel_remap.proofs.remap.remap_row.Goals as goal
-
-pub loop-x-init : goal.loop-x-init
-loop-x-init c = (omega arith, painted-none _ _ _ _)
-
-pub put-requires : goal.put-requires
-put-requires c = omega (arith, c.loop-x.invariant.1.long)
 
 pub loop-x-preserved : goal.loop-x-preserved
 loop-x-preserved c =
@@ -17,11 +11,3 @@ loop-x-preserved c =
     let s = c.args in
     let e = c.remap_word.ensures.holds ∙ ap (looked_up s.tables.now s.maps.now) c.word-v.ensures.holds in
     (omega arith, painted-more _ _ _ _ _ _ _ _ _ (omega arith) (omega arith) e L.invariant.1 c.put.ensures)
-
-pub shape_of-dst : goal.shape_of-dst
-shape_of-dst c = c.loop-x.invariant.1.long
-
-pub returns : goal.returns
-returns c =
-    let e : c.loop-x.x ≡ c.args.n = omega arith in
-    rw (← e) c.loop-x.invariant.1

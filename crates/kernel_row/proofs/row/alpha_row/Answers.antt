@@ -1,11 +1,8 @@
 -- `kernel_row::row::alpha_row` meets its contract: each turn paints one more pixel's alpha. Assumes nothing.
-use Rattle.std.proofs.Common.{◌≡◌, arith}
-use Rattle.pixel.proofs.PaintedRows.{painted-none, painted-more}
+use Rattle.std.proofs.Common.{arith}
+use Rattle.pixel.proofs.PaintedRows.{painted-more}
 use Rattle.kernel_row.proofs.AlphaWords.{unpacked-alpha}
 use Rattle.kernel_row.proofs.row.alpha_row.Goals as goal
-
-pub loop-x-init : goal.loop-x-init
-loop-x-init c = (omega arith, painted-none _ _ _ _)
 
 pub loop-x-preserved : goal.loop-x-preserved
 loop-x-preserved c =
@@ -13,11 +10,3 @@ loop-x-preserved c =
       omega arith,
       painted-more _ _ 0 _ 0 c.loop-x.x _ _ _ (omega arith) (omega arith) (unpacked-alpha _ w.result (omega arith) w.ensures) c.loop-x.invariant.1 c.put.ensures,
     )
-
-pub shape_of-dst : goal.shape_of-dst
-shape_of-dst c = c.loop-x.invariant.1.long
-
-pub returns : goal.returns
-returns c =
-    let e : c.loop-x.x ≡ c.args.n = omega arith in
-    rw e at c.loop-x.invariant.1

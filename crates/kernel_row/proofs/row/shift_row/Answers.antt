@@ -1,29 +1,13 @@
 -- `kernel_row::row::shift_row` meets its contract: the row shows between the two parting places, and is transparent before and after them.
 -- Assumes nothing.
-use Rattle.std.proofs.Common.{◌<◌, arith, rules}
 use Rattle.pixel.proofs.PaintedRows.{painted-as, painted-join}
-use Rattle.kernel_row.proofs.MovedRows.{moved_before, moved-between, moved-after, moved_none, moved-starts, moved-room}
+use Rattle.kernel_row.proofs.MovedRows.{moved_before, moved-between, moved-after, moved_none}
 use Rattle.kernel_row.proofs.row.shift_row.Goals as goal
 
 pub returns-then-hi-lo : goal.returns-then-hi-lo
 returns-then-hi-lo c =
     painted-as _ _ _ _ _ _ _ (moved_none _ _ _ _ _ _ _ _ c.part-lo.ensures c.part-hi.ensures c.if-hi-lo.true)
     c.clear_pixels.ensures
-
-pub overflow_sub-lo : goal.overflow_sub-lo
-overflow_sub-lo c =
-    let a = c.args in
-    let l : c.part-lo.result < c.part-hi.result = omega arith in
-    omega (arith, moved-starts a.src.now a.w a.right a.left a.from a.to _ _ c.part-lo.ensures c.part-hi.ensures l)
-
-pub copy_pixels-requires : goal.copy_pixels-requires
-copy_pixels-requires c =
-    let a = c.args in
-    let l : c.part-lo.result < c.part-hi.result = omega arith in (
-      search rules,
-      search rules,
-      omega (arith, moved-room a.src.now a.w a.right a.left a.from a.to _ _ c.part-lo.ensures c.part-hi.ensures l),
-    )
 
 pub returns : goal.returns
 returns c =

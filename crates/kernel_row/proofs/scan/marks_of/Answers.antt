@@ -8,8 +8,6 @@ pub returns : goal.returns
 returns c =
     let v = c.args.v in
     let a = v / 16777216 in
-    let first = c.wrapping_sub_u32-first in
-    let second = c.wrapping_sub_u32 in
-    marked-pixel (unpacked v) first.result second.result
-    (marked-halves a (v % 256) (v / 65536 % 256) first.result (omega arith) (omega arith) (omega arith) (omega arith) first.ensures.value)
-    (marked-halves a (v / 256 % 256) a second.result (omega arith) (omega arith) (omega arith) (omega arith) second.ensures.value)
+    marked-pixel (unpacked v) _ _
+    (marked-halves a (v % 256) (v / 65536 % 256) (omega arith) (omega arith) (omega arith))
+    (marked-halves a (v / 256 % 256) a (omega arith) (omega arith) (omega arith))

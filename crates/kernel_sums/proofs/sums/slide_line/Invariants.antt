@@ -1,8 +1,10 @@
-use Prim.Native.Nat.{◌+◌, ◌-◌, ◌/◌, ◌≤◌}
-use lib.ListN.{get_or}
+use Prim.Native.Nat.{◌+◌, ◌-◌, ◌/◌}
 use Rattle.window.specs.Store.{Filled}
+use Rattle.kernel_sums.specs.Running.{slid}
 use Rattle.kernel_sums.proofs.sums.slide_line.Given as goal
 
 abbrev pub invariant-loop-i : goal.invariant-loop-i
-invariant-loop-i l =
-    (l.i ≤ l.n) × Filled (λ i. get_or l.initial.sums i 0 + get_or l.initial.buf (l.p + i) 0 - get_or l.initial.buf (l.q + i) 0) 0 l.i l.initial.sums l.sums × Filled (λ j. (get_or l.initial.sums (j - l.r) 0 + get_or l.initial.buf (l.p + (j - l.r)) 0 - get_or l.initial.buf (l.q + (j - l.r)) 0) / l.size) l.r (l.r + l.i) l.initial.buf l.buf
+invariant-loop-i l = record {
+  sums : Filled (slid l.fn.sums l.initial.buf l.p l.q) 0 l.i l.initial.sum-items l.sum-items;
+  line : Filled (λ j. slid l.fn.sums l.initial.buf l.p l.q (j - l.r) / l.size) l.r (l.r + l.i) l.initial.buf l.buf;
+}

@@ -5,14 +5,13 @@ use Rattle.kernels.proofs.PairedNumbers.{paired_none, paired-more, paired-all}
 use Rattle.kernels.proofs.convolve.values_of.Goals as goal
 
 pub loop-i-init : goal.loop-i-init
-loop-i-init c = (omega arith, paired_none _)
+loop-i-init c = paired_none _
 
 pub loop-i-preserved : goal.loop-i-preserved
-loop-i-preserved c =
-    (omega (arith, c.loop-i-test.true), paired-more _ c.loop-i.i _ c.loop-i-test.true c.loop-i.invariant.1)
+loop-i-preserved c = paired-more _ c.loop-i.i _ (omega arith) c.loop-i.invariant
 
 pub returns : goal.returns
 returns c =
     let k = c.loop-i in
-    let e : k.i ≡ 64 = omega (arith, c.loop-i-test.false, k.invariant.0) in
-    paired-all _ _ (rw (← e) k.invariant.1)
+    let e : k.i ≡ 64 = omega arith in
+    paired-all _ _ (rw (← e) k.invariant)

@@ -1,11 +1,9 @@
 -- `layers::steps::redraw_next` meets its contract: its rectangle is worked out from those so far, and drawn in its context. Assumes nothing.
 use mathlib.Core.Path.{ap, ◌∙◌}
-use mathlib.Core.Bool.{Bool}
 use mathlib.Core.List.{List}
 use lib.ListN.{set}
 use native.Mathlib.Omega.{arith}
-use Rattle.pixel.specs.declared.Space.TheVariants.{Srgb}
-use Rattle.pixel.specs.Convert.{differ?}
+use Rattle.pixel.specs.declared.Space.{Space}
 use Rattle.filter.specs.declared.Input.TheVariants.{Source}
 use Rattle.damage.specs.InputRects.{rect_of}
 use Rattle.damage.proofs.DamagesSoFar.{within_more, all_within_more}
@@ -57,4 +55,4 @@ returns c =
     let T = context-redrawn c.context_for-context.result _ _ _ a.step _ _ _ C.0 C.1 C.2 C.3 C.4 c.resolve-made.ensures c.bounds-region.ensures _ _ _ _ e D.1 _ c.redraw_step.ensures.context_redrawn in
     let R = rw f at c.with_rect.ensures in
     let P = c.with_space.ensures in
-    record { redrawn = record { layer = T; rects = P.0 ∙ R.rects; count = P.1 ∙ R.count; small = R.small; spaces = P.2 ∙ ap (λ (zs : List Bool). set zs a.n (differ? Srgb a.step.space)) R.linear }; work_buffer = c.redraw_step.ensures.work_buffer }
+    record { redrawn = record { layer = T; rects = P.0 ∙ R.rects; count = P.1 ∙ R.count; small = R.small; spaces = P.2 ∙ ap (λ (zs : List Space). set zs a.n a.step.space) R.spaces }; work_buffer = c.redraw_step.ensures.work_buffer }

@@ -1,12 +1,15 @@
 -- `render::settling::finish` meets its contract: cleared where the call was accepted. Assumes nothing.
-use mathlib.Core.Path.{refl, sym, ◌∙◌}
+use Rattle.std.proofs.Common.{rules, refl, ◌≡◌, true}
+use Rattle.filter.specs.Answers.{accepted?}
+use Rattle.filter.proofs.PassedChecks.{refused}
 use Rattle.render.proofs.PromisesKept.{if-accepted, if-refused}
 use Rattle.render.proofs.settling.finish.Goals as goal
 
-pub returns-then-is_accepted : goal.returns-then-is_accepted
-returns-then-is_accepted c =
-    record { value = refl; scratch_after = if-accepted _ _ _ _ (sym c.is_accepted.ensures ∙ c.if-is_accepted.true) c.clear.ensures }
+pub returns-in_err-answer-clause-scratch_after : goal.returns-in_err-answer-clause-scratch_after
+returns-in_err-answer-clause-scratch_after c = if-refused _ _ _ _ (rw c.in_err-answer.was (refused _)) refl
 
-pub returns : goal.returns
-returns c =
-    record { value = refl; scratch_after = if-refused _ _ _ _ (sym c.is_accepted.ensures ∙ c.if-is_accepted.false) refl }
+pub returns-clause-scratch_after : goal.returns-clause-scratch_after
+unfolding accepted?
+returns-clause-scratch_after c =
+    let t : accepted? c.args.answer ≡ true = rw c.in_ok-answer.was refl in
+    if-accepted _ _ _ _ t (search rules)

@@ -1,38 +1,40 @@
 -- `tables::field::hex` meets its contract: each turn takes one digit more. Assumes nothing.
-use Prim.Native.Nat.{ℕ, ◌+◌, ◌-◌, ◌*◌, ◌<◌}
-use mathlib.Core.Path.{◌≡◌, sym, ap, ap₂, ◌∙◌}
-use native.Mathlib.Omega.{arith}
+use Rattle.std.proofs.Common.{ℕ, ◌≡◌, ◌+◌, ◌-◌, ◌<◌, refl, ap, ◌∙◌, arith, drop}
 use Rattle.tables.specs.Hex.{hex_of}
-use Rattle.tables.proofs.HexDigits.{hex-none, hex-more, hex-room}
+use Rattle.tables.proofs.HexDigits.{digits-ahead, hex-more, hex-room}
+use lib.ListN.{length-take, length-drop}
 use Rattle.tables.proofs.field.hex.Goals as goal
 
-pub loop-i-init : goal.loop-i-init
-loop-i-init c = (omega arith, omega arith, sym (hex-none _ _))
+-- before one of at most sixteen digits the value has room for it
+room : (c : goal.In-loop-x) → c.loop-x.value < 1152921504606846976
+room c =
+    let a = c.args in
+    let few : c.loop-x.x-index < a.count = digits-ahead a.line.now a.at a.count c.loop-x.x-index c.requires.0 c.loop-x-test.true in
+    rw c.loop-x.invariant (hex-room a.line.now a.at c.loop-x.x-index (omega arith))
+
+pub loop-x-init : goal.loop-x-init
+unfolding hex_of
+loop-x-init c = refl
 
 pub overflow_mul-value : goal.overflow_mul-value
-overflow_mul-value c =
-    let room : c.loop-i.value < 1152921504606846976 = let a = c.args in
-    rw c.loop-i.invariant.2 (hex-room a.line.now a.at (c.loop-i.i - a.at) (omega arith)) in
-    omega (arith, room)
+overflow_mul-value c = omega (arith, room c)
 
 pub overflow_add-value : goal.overflow_add-value
 overflow_add-value c =
-    let room : c.loop-i.value < 1152921504606846976 = let a = c.args in
-    rw c.loop-i.invariant.2 (hex-room a.line.now a.at (c.loop-i.i - a.at) (omega arith)) in
-    omega (arith, room, c.digit.ensures.1)
-
-pub loop-i-preserved : goal.loop-i-preserved
-loop-i-preserved c =
     let a = c.args in
-    let L = c.loop-i in (
-      omega arith,
-      omega arith,
-      ap₂ (λ (v d : ℕ). v * 16 + d) L.invariant.2 c.digit.ensures.0 ∙ sym (hex-more a.line.now a.at L.i L.invariant.0),
-    )
+    let few : c.loop-x.x-index < a.count = digits-ahead a.line.now a.at a.count c.loop-x.x-index c.requires.0 c.loop-x-test.true in
+    let below : c.loop-x.value < 1152921504606846976 = rw c.loop-x.invariant (hex-room a.line.now a.at c.loop-x.x-index (omega arith)) in
+    omega (arith, below, c.digit.ensures.1)
+
+pub loop-x-preserved : goal.loop-x-preserved
+loop-x-preserved c =
+    let a = c.args in
+    let i : ℕ = c.loop-x.x-index in
+    let few : i < a.count = digits-ahead a.line.now a.at a.count i c.requires.0 c.loop-x-test.true in
+    hex-more a.line.now a.at a.count i c.loop-x.value c.digit.result few c.loop-x.invariant c.digit.ensures.0
 
 pub returns : goal.returns
 returns c =
     let a = c.args in
-    let L = c.loop-i in
-    let e : L.i - a.at ≡ a.count = omega arith in
-    L.invariant.2 ∙ ap (hex_of a.line.now a.at) e
+    let e : c.loop-x.x-index ≡ a.count = omega (arith, length-take (a.at + a.count - a.at) (drop a.at a.line.now), length-drop a.at a.line.now) in
+    c.loop-x.invariant ∙ ap (hex_of a.line.now a.at) e

@@ -1,5 +1,4 @@
 use mathlib.Core.Path.{◌≡◌}
-use Prim.Native.Nat.{◌-◌}
 use lib.ListN.{length, drop}
 use Rattle.text_field.specs.Split.{split}
 use Rattle.filter.specs.Limits.{text_picture}
@@ -9,7 +8,4 @@ use Rattle.text.proofs.LineAdded.{held}
 use Rattle.text.proofs.documents.stored_pixels.Given as goal
 
 abbrev pub invariant-loop-i : goal.invariant-loop-i
-invariant-loop-i l = FieldsGathered pixel? pixel_of (held l.start l.at) (drop 1 (split 9 l.line)) l.n l.i l.pixels × (length l.pixels ≡ text_picture)
-
-abbrev pub decreases-loop-i : goal.decreases-loop-i
-decreases-loop-i l = l.n - l.i
+invariant-loop-i l = FieldsGathered pixel? pixel_of (held l.fn.start l.at) (drop 1 (split 9 l.line)) l.n l.i l.pixels × (length l.pixels ≡ text_picture)

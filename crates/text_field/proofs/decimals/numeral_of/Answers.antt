@@ -1,26 +1,24 @@
 -- `text_field::decimals::numeral_of` meets its contract. By cases on the first byte. Assumes nothing.
-use mathlib.Core.Path.{sym}
 use Rattle.text_field.proofs.DigitNumbers.{hex-below}
-use Rattle.text_field.proofs.NumberFields.{magnitude-below, number-empty, number-single, number-minus, number-plus}
+use Rattle.text_field.proofs.NumberFields.{magnitude-below, number-single, number-minus, number-plus}
 use Rattle.text_field.proofs.decimals.numeral_of.Goals as goal
-
-pub returns-then-f-eq0 : goal.returns-then-f-eq0
-returns-then-f-eq0 c = sym (number-empty _ c.if-f-eq0.true)
 
 pub single_of-requires : goal.single_of-requires
 single_of-requires c = rw c.hex.ensures (hex-below _)
 
-pub returns-then-first-eq120 : goal.returns-then-first-eq120
-returns-then-first-eq120 c = number-single _ c.if-first-eq120.true c.hex.ensures c.single_of.ensures
+pub returns-in-Some : goal.returns-in-Some
+returns-in-Some c = let h = c.in-Some.ensures.cases in number-single _ (h.0, h.1) c.hex.ensures c.single_of.ensures
 
 pub decimal_of-requires : goal.decimal_of-requires
 decimal_of-requires c = rw c.magnitude.ensures (magnitude-below _)
 
-pub returns-then-first-eq45 : goal.returns-then-first-eq45
-returns-then-first-eq45 c = number-minus _ c.if-first-eq120.false c.if-first-eq45.true c.magnitude.ensures c.decimal_of.ensures
+pub decimal_of-requires-in-None : goal.decimal_of-requires-in-None
+decimal_of-requires-in-None c = rw c.magnitude-in-None.ensures (magnitude-below _)
 
-pub decimal_of-requires-2 : goal.decimal_of-requires-2
-decimal_of-requires-2 c = rw c.magnitude-2.ensures (magnitude-below _)
+pub returns-in-Some-strip_prefix : goal.returns-in-Some-strip_prefix
+returns-in-Some-strip_prefix c =
+    let h = c.in-Some-strip_prefix.ensures.cases in
+    number-minus _ c.in_default.ensures.cases (h.0, h.1) c.magnitude.ensures c.decimal_of.ensures
 
-pub returns : goal.returns
-returns c = number-plus _ c.if-first-eq120.false c.if-first-eq45.false c.magnitude-2.ensures c.decimal_of-2.ensures
+pub returns-in-None : goal.returns-in-None
+returns-in-None c = number-plus _ c.in_default.ensures.cases c.in-None.ensures.cases c.magnitude-in-None.ensures c.decimal_of-in-None.ensures

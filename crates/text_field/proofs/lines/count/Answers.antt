@@ -1,17 +1,11 @@
--- `text_field::lines::count` meets its contract. The loop keeps that the tabs behind and those ahead are all. Assumes nothing.
-use mathlib.Core.Path.{refl}
-use native.Mathlib.Omega.{arith}
-use Rattle.text_field.proofs.SplitByIndex.{occurs-hit, occurs-miss, counted-end}
+-- `text_field::lines::count` meets its contract: std's `split` gives the pieces, and `count` how many. Assumes nothing.
+use Rattle.std.proofs.Common.{eqb, rules, tests}
+use Rattle.std.proofs.lemmas.Iterator.Splits.{YieldsList-from_slice_split}
+use Rattle.std.proofs.lemmas.Iterator.Consumers.{count_from_yields_List}
+use Rattle.text_field.specs.Split.{split}
 use Rattle.text_field.proofs.lines.count.Goals as goal
 
-pub loop-i-init : goal.loop-i-init
-loop-i-init c = record { hi = omega arith; few = omega arith; is = refl }
-
-pub loop-i-preserved : goal.loop-i-preserved
-loop-i-preserved c =
-    let hit = occurs-hit 9 c.args.line.now c.loop-i.i c.loop-i-test.true in
-    let miss = occurs-miss 9 c.args.line.now c.loop-i.i c.loop-i-test.true in
-    record { hi = omega arith; few = grind arith; is = grind arith }
-
 pub returns : goal.returns
-returns c = counted-end _ _ _ _ c.loop-i.invariant c.loop-i-test.false
+unfolding split
+returns c =
+    count_from_yields_List c.split.result _ c.count.ensures.ran (YieldsList-from_slice_split _ (λ x. eqb x 9) c.args.line.now c.split.ensures.rest c.split.ensures.done c.split.ensures.closure (λ x b q k. search (rules, tests)))

@@ -1,23 +1,21 @@
--- `text_field::lines::field` meets its contract. The loop keeps that field i - k of the rest is field i of the line. Assumes nothing.
-use borrow.Author.Rules.{rules}
-use native.Mathlib.Omega.{arith}
-use Rattle.text_field.proofs.SplitByIndex.{walked_start, walked-out, walked_more, walked_end}
+-- `text_field::lines::field` meets its contract: std's `split` gives the pieces, and `nth` the one. Assumes nothing.
+use Rattle.std.proofs.Common.{◌≡◌, List, [], ℕ, eqb, Option, Some, None, unwrap_or, option_map, refl, ap, ◌∙◌, rules, tests}
+use denote.Ref.{Bor}
+use Rattle.std.proofs.lemmas.Iterator.Splits.{YieldsList-from_slice_split}
+use Rattle.std.proofs.lemmas.Iterator.Consumers.{nth_from_yields_List}
+use Rattle.std.proofs.lemmas.Option.{unwrap_or-slice_get}
+use Rattle.text_field.specs.Split.{split}
 use Rattle.text_field.proofs.lines.field.Goals as goal
 
-pub loop-k-init : goal.loop-k-init
-loop-k-init c = walked_start _ _ _ _ c.find-e.ensures
-
-pub returns-then-e-line : goal.returns-then-e-line
-returns-then-e-line c = walked-out _ _ _ _ _ _ c.loop-k.invariant (search rules) c.if-e-line.true
-
-pub overflow_add-at : goal.overflow_add-at
-overflow_add-at c = omega (arith, c.if-e-line.false)
-
-pub find-e-requires-in-loop-k : goal.find-e-requires-in-loop-k
-find-e-requires-in-loop-k c = omega (arith, c.if-e-line.false)
-
-pub loop-k-preserved : goal.loop-k-preserved
-loop-k-preserved c = walked_more _ _ _ _ _ _ _ c.loop-k.invariant (search rules) c.if-e-line.false c.find-e-in-loop-k.ensures
+now-or : (r : Option (Bor (List ℕ))) (d : Bor (List ℕ)) → (unwrap_or r d).now ≡ unwrap_or (option_map (λ y. y.now) r) d.now
+now-or None d = refl
+now-or (Some x) d = refl
 
 pub returns : goal.returns
-returns c = walked_end _ _ _ _ _ _ c.loop-k.invariant (search rules)
+unfolding split
+returns c =
+    let e = nth_from_yields_List c.nth.result _ c.args.i c.nth.ensures.ran (YieldsList-from_slice_split _ (λ x. eqb x 9) c.args.line.now c.split.ensures.rest c.split.ensures.done c.split.ensures.closure (λ x b q k. search (rules, tests))) in
+    ap (λ (x : Bor (List ℕ)). x.now) c.unwrap_or.ensures
+    ∙ now-or c.nth.result _
+    ∙ ap (λ (o : Option (List ℕ)). unwrap_or o []) e
+    ∙ unwrap_or-slice_get _ c.args.i []

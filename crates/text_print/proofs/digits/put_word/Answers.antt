@@ -1,15 +1,12 @@
--- `text_print::digits::put_word` meets its contract. The loop keeps that the first i bytes are stored. Assumes nothing.
-use mathlib.Core.Path.{refl}
-use native.Mathlib.Omega.{arith}
-use borrow.Author.Rules.{rules}
-use Rattle.text_print.proofs.PutTexts.{word_none, word_more, word-all}
+-- `text_print::digits::put_word` meets its contract: the part of the buffer is the word. Assumes nothing.
+use Rattle.std.proofs.Common.{◌≡◌, ◌+◌, ◌-◌, length, refl, arith}
+use lib.Seq.{drop-drop}
+use Rattle.text_step.specs.ManyFields.{stored}
 use Rattle.text_print.proofs.digits.put_word.Goals as goal
 
-pub loop-i-init : goal.loop-i-init
-loop-i-init c = (word_none c.args.word.now _ _, omega arith, refl)
-
-pub loop-i-preserved : goal.loop-i-preserved
-loop-i-preserved c = (word_more _ _ _ (search rules) c.loop-i.invariant.0 (search rules) (search rules), search rules, search rules)
-
 pub returns : goal.returns
-returns c = word-all _ _ _ (search rules) c.loop-i.invariant.0 (search rules)
+unfolding stored
+returns c =
+    let n = length c.args.word.now in
+    let k : c.args.at + n - c.args.at ≡ n = omega arith in
+    record { is = rw (k, c.copy_from_slice.ensures.after, drop-drop n c.args.at c.args.out.now); ends = refl }

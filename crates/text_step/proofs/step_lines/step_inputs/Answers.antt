@@ -3,31 +3,27 @@ use mathlib.Core.Path.{refl, sym, ap, ◌∙◌}
 use mathlib.Core.List.{[]}
 use Prim.Native.Nat.{◌+◌}
 use lib.ListN.{get_or, length-set}
+use borrow.Author.Rules.{rules}
 use Rattle.filter.specs.Steps.{no_input}
 use Rattle.text_field.specs.Split.{split}
 use Rattle.text_step.specs.StepLine.{input_of}
-use Rattle.text_step.specs.ManyFields.{padded}
-use Rattle.text_step.specs.StepLine.{input?, step_input_of, found?, step_input_to}
-use Rattle.text_step.proofs.FieldsGathered.{fields-gathered-none, fields-gathered-bad, fields-gathered-all, padded-none, array-more, field_of, fields-long}
-use Rattle.text_step.proofs.StepLineParts.{step-inputs-bad, step-inputs-end}
-use borrow.Author.Rules.{rules}
+use Rattle.text_step.proofs.FieldsGathered.{filled-none, filled-more, filled-bad, filled-all, field_of, fields-long}
 use Rattle.text_step.proofs.step_lines.step_inputs.Goals as goal
 
 pub loop-i-init : goal.loop-i-init
-loop-i-init c =
-    (refl, fields-gathered-none input? step_input_of (padded 4 no_input) _ _ (fields-long (λ j. get_or (split 9 c.args.line.now) (c.args.at + j) []) 0 c.args.n) (padded-none 4 no_input), refl)
+loop-i-init c = (filled-none input_of 4 no_input _ _ (fields-long (λ j. get_or (split 9 c.args.line.now) (c.args.at + j) []) 0 c.args.n), refl)
 
-pub returns-in-Nowhere : goal.returns-in-Nowhere
-returns-in-Nowhere c =
+pub returns-in_err-inputs : goal.returns-in_err-inputs
+returns-in_err-inputs c =
     let e = field_of (λ j. get_or (split 9 c.args.line.now) (c.args.at + j) []) c.args.n c.loop-i.i (search rules) in
-    let q = sym (ap input_of c.field.ensures) ∙ sym c.input_of.ensures ∙ c.in-Nowhere.is in
-    step-inputs-bad _ (fields-gathered-bad input? step_input_of (padded 4 no_input) _ _ _ _ c.loop-i.invariant.1 (search rules) (ap input? e ∙ ap found? q))
+    let q = sym (ap input_of c.field.ensures) ∙ sym c.input_of.ensures ∙ c.in_err-inputs.was in
+    c.from_residual.ensures ∙ filled-bad input_of 4 no_input _ _ _ _ c.loop-i.invariant.0 (search rules) (ap input_of e ∙ q)
 
 pub loop-i-preserved : goal.loop-i-preserved
 loop-i-preserved c =
     let e = field_of (λ j. get_or (split 9 c.args.line.now) (c.args.at + j) []) c.args.n c.loop-i.i (search rules) in
-    let q = sym (ap input_of c.field.ensures) ∙ sym c.input_of.ensures ∙ c.in-To.is in
-    (refl, array-more input? step_input_of 4 no_input _ _ _ _ _ c.loop-i.invariant.1 (search rules) (search rules) (ap input? e ∙ ap found? q) (ap step_input_of e ∙ ap step_input_to q), simp length-set c.loop-i.invariant.2)
+    let q = sym (ap input_of c.field.ensures) ∙ sym c.input_of.ensures ∙ c.in_ok-inputs.was in
+    (filled-more input_of 4 no_input _ _ _ _ c.loop-i.invariant.0 (search rules) (search rules) (ap input_of e ∙ q), simp length-set c.loop-i.invariant.1)
 
 pub returns : goal.returns
-returns c = step-inputs-end _ (fields-gathered-all input? step_input_of (padded 4 no_input) _ _ _ _ c.loop-i.invariant.1 (search rules))
+returns c = filled-all input_of 4 no_input _ _ _ _ c.loop-i.invariant.0 (search rules)

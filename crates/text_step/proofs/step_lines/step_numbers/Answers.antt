@@ -3,43 +3,40 @@ use mathlib.Core.Path.{refl, sym, ap, ◌∙◌}
 use mathlib.Core.List.{List, []}
 use Prim.Native.Nat.{ℕ}
 use lib.ListN.{get_or, length-set}
+use native.Mathlib.Omega.{arith}
+use borrow.Author.Rules.{rules}
 use Rattle.filter.specs.Limits.{most_numbers}
 use Rattle.filter.specs.Signature.{numbers_of}
 use Rattle.filter.specs.Steps.{no_number}
 use Rattle.filter.proofs.FewNumbers.{numbers-few}
 use Rattle.text_field.specs.Split.{split}
 use Rattle.text_field.specs.Field.{numeral_of}
-use Rattle.text_step.specs.ManyFields.{padded}
 use Rattle.text_step.specs.Layout.{number_field}
-use Rattle.text_step.specs.StepLine.{number?, step_number_of, formed?, step_number_in}
-use Rattle.text_step.proofs.FieldsGathered.{fields-gathered-none, fields-gathered-bad, fields-gathered-all, padded-none, array-more, field_of, fields-long}
-use Rattle.text_step.proofs.StepLineParts.{step-numbers-bad, step-numbers-end}
-use borrow.Author.Rules.{rules}
-use native.Mathlib.Omega.{arith}
+use Rattle.text_step.proofs.FieldsGathered.{filled-none, filled-more, filled-bad, filled-all, field_of, fields-long}
 use Rattle.text_step.proofs.step_lines.step_numbers.Goals as goal
 
 pub loop-i-init : goal.loop-i-init
 loop-i-init c =
     let k = c.args.kind in
     let e = c.requires.2 in
-    (refl, fields-gathered-none number? step_number_of (padded most_numbers no_number) _ _ (fields-long (λ j. get_or (split 9 c.args.line.now) (number_field k j) []) 0 (numbers_of k) ∙ sym e) (padded-none most_numbers no_number), refl, omega (arith, e, numbers-few k))
+    (filled-none numeral_of most_numbers no_number _ _ (fields-long (λ j. get_or (split 9 c.args.line.now) (number_field k j) []) 0 (numbers_of k) ∙ sym e), refl, omega (arith, e, numbers-few k))
 
 pub number_field-requires : goal.number_field-requires
 number_field-requires c = (c.requires.0, c.requires.1, search rules)
 
-pub returns-in-Malformed : goal.returns-in-Malformed
-returns-in-Malformed c =
+pub returns-in_err-numbers : goal.returns-in_err-numbers
+returns-in_err-numbers c =
     let f : ℕ → List ℕ = λ j. get_or (split 9 c.args.line.now) (number_field c.args.kind j) [] in
     let e = field_of f (numbers_of c.args.kind) c.loop-i.i (omega (arith, c.requires.2)) in
-    let q = sym (ap numeral_of (c.field.ensures ∙ ap (λ (j : ℕ). get_or (split 9 c.args.line.now) j []) c.number_field.ensures.0)) ∙ sym c.numeral_of.ensures ∙ c.in-Malformed.is in
-    step-numbers-bad _ (fields-gathered-bad number? step_number_of (padded most_numbers no_number) _ _ _ _ c.loop-i.invariant.1 (search rules) (ap number? e ∙ ap formed? q))
+    let q = sym (ap numeral_of (c.field.ensures ∙ ap (λ (j : ℕ). get_or (split 9 c.args.line.now) j []) c.number_field.ensures.0)) ∙ sym c.numeral_of.ensures ∙ c.in_err-numbers.was in
+    c.from_residual.ensures ∙ filled-bad numeral_of most_numbers no_number _ _ _ _ c.loop-i.invariant.0 (search rules) (ap numeral_of e ∙ q)
 
 pub loop-i-preserved : goal.loop-i-preserved
 loop-i-preserved c =
     let f : ℕ → List ℕ = λ j. get_or (split 9 c.args.line.now) (number_field c.args.kind j) [] in
     let e = field_of f (numbers_of c.args.kind) c.loop-i.i (omega (arith, c.requires.2)) in
-    let q = sym (ap numeral_of (c.field.ensures ∙ ap (λ (j : ℕ). get_or (split 9 c.args.line.now) j []) c.number_field.ensures.0)) ∙ sym c.numeral_of.ensures ∙ c.in-Reads.is in
-    (refl, array-more number? step_number_of most_numbers no_number _ _ _ _ _ c.loop-i.invariant.1 (search rules) (search rules) (ap number? e ∙ ap formed? q) (ap step_number_of e ∙ ap step_number_in q), simp length-set c.loop-i.invariant.2, c.loop-i.invariant.3)
+    let q = sym (ap numeral_of (c.field.ensures ∙ ap (λ (j : ℕ). get_or (split 9 c.args.line.now) j []) c.number_field.ensures.0)) ∙ sym c.numeral_of.ensures ∙ c.in_ok-numbers.was in
+    (filled-more numeral_of most_numbers no_number _ _ _ _ c.loop-i.invariant.0 (search rules) (search rules) (ap numeral_of e ∙ q), simp length-set c.loop-i.invariant.1, c.loop-i.invariant.2)
 
 pub returns : goal.returns
-returns c = step-numbers-end _ (fields-gathered-all number? step_number_of (padded most_numbers no_number) _ _ _ _ c.loop-i.invariant.1 (search rules))
+returns c = filled-all numeral_of most_numbers no_number _ _ _ _ c.loop-i.invariant.0 (search rules)

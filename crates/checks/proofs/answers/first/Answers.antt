@@ -1,9 +1,0 @@
--- `checks::answers::first` meets its contract: a refusal stays. Assumes nothing.
-use mathlib.Core.Path.{sym, ◌∙◌}
-use Rattle.checks.proofs.answers.first.Goals as goal
-
-pub returns-then-is_accepted : goal.returns-then-is_accepted
-returns-then-is_accepted c = rw (sym c.is_accepted.ensures ∙ c.if-is_accepted.true)
-
-pub returns : goal.returns
-returns c = rw (sym c.is_accepted.ensures ∙ c.if-is_accepted.false)

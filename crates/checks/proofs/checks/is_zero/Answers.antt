@@ -1,8 +1,0 @@
--- `checks::checks::is_zero` meets its contract. Assumes nothing.
-use Rattle.checks.proofs.checks.is_zero.Goals as goal
-
-pub returns-in-Accepted : goal.returns-in-Accepted
-returns-in-Accepted c = rw c.in-Accepted.is
-
-pub returns-in-Refused : goal.returns-in-Refused
-returns-in-Refused c = rw c.in-Refused.is

@@ -1,7 +1,0 @@
-use Prim.Native.Nat.{◌+◌, ◌≤◌}
-use Rattle.window.specs.Store.{Filled}
-use Rattle.kernel_fold.specs.Operation.{operation, folded_three}
-use Rattle.kernel_fold.proofs.fold.fold_three.Given as goal
-
-abbrev pub invariant-loop-i : goal.invariant-loop-i
-invariant-loop-i l = (l.i ≤ l.m) × Filled (folded_three (operation l.op) l.initial.buf l.w l.x l.y l.to) l.to (l.to + l.i) l.initial.buf l.buf

@@ -1,6 +1,0 @@
-use Rattle.std.proofs.Common.{◌≤◌, length, get_or}
-use Rattle.window.specs.Store.{Filled}
-use Rattle.kernel_row.proofs.row.copy.Given as goal
-
-abbrev pub invariant-loop-i : goal.invariant-loop-i
-invariant-loop-i l = (l.i ≤ length l.initial.dst) × Filled (λ j. get_or l.src j 0) 0 l.i l.initial.dst l.dst

@@ -1,7 +1,0 @@
-use Prim.Native.Nat.{ℕ, ◌+◌, ◌≤◌}
-use Rattle.window.specs.Store.{Filled}
-use Rattle.kernel_taps.specs.Lanes.{tapped}
-use Rattle.kernel_taps.proofs.lanes.fill5.Given as goal
-
-abbrev pub invariant-loop-b : goal.invariant-loop-b
-invariant-loop-b l = (l.b ≤ l.n) × Filled (λ (i : ℕ). tapped 5 l.weights l.f l.lines (l.at + i)) 0 l.b l.initial.out l.out
