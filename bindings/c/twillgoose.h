@@ -12,8 +12,8 @@
  * A slice is a pointer and its length in bytes. Every length and every number is checked: what does not fit is refused,
  * and a refused render or redraw changes no byte of any slice. What the library cannot check is the caller's part: a
  * pointer is not null, not even with length 0, and has that many bytes behind it, and what is written does not overlap
- * anything else that is passed. Nothing is allocated; a call uses up to 520 KB of stack,
- * twillgoose_sheet up to 420 KB.
+ * anything else that is passed. Nothing is allocated; a call uses up to 600 KB of stack,
+ * twillgoose_sheet up to 520 KB.
  *
  * Steps are lines of text, each closed by a line feed, their fields parted by one tab: kind, x, y, width, height of its
  * region, inputs (src, alpha, or the number of an earlier step), numbers, and optionally the space that it works in:

@@ -41,11 +41,15 @@ pub record RowsRead (h : ℕ) (k : Convolution) (top bottom from to : ℕ) : Typ
 abbrev pub line_of : ℕ → ℕ → Convolution → Picture → ℕ → ℕ → ℕ → Pixel
 line_of w h k g y i m = extended k.edge h k.row (λ q. extended k.edge w k.column (λ p. as_read k.preserve (g p q)) m) (y + i)
 
--- what laying lines asks of the canvas and the buffers
-pub record Laid (w h : ℕ) (scratch lines : List ℕ) : Type 0 where
+-- what laying lines asks of the canvas, the kernel and the buffers
+pub record Laid (w h : ℕ) (k : Convolution) (scratch lines : List ℕ) : Type 0 where
   pub some_wide : 0 < w
   pub wide : w ≤ longest_side
   pub high : h ≤ longest_side
+  pub few_columns : k.columns ≤ 5
+  pub few_rows : k.rows ≤ 5
+  pub column : k.column < k.columns
+  pub row : k.row < k.rows
   pub scratch_is : length scratch ≡ 2 * size w h
   pub lines_are : length lines ≡ all_lines
 

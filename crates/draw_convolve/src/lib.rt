@@ -46,7 +46,14 @@ fn paint(
     let count = part.to - part.from;
     let lo = buffers::start(context, part);
     let hi = lo + 4 * count;
-    lay_lines(scratch, context.w, context.h, kernel, part.y, lines);
+    lay_lines(
+        scratch,
+        context.w,
+        context.h,
+        kernel.convolution,
+        part.y,
+        lines,
+    );
     convolve_row(kernel, &lines[..], part.from, count, &mut workspace[lo..hi]);
 }
 

@@ -2,15 +2,15 @@
 ghost use Rattle.std.specs.Prelude.{◌≡◌, ◌<◌, length};
 ghost use Rattle.draw_convolve.specs.Staged.{Laid, LineLaid, LinesLaid};
 
-use kernel_lines::{Kernel, clear_line, lay_line, place_of};
+use kernel_lines::{clear_line, lay_line, place_of};
+use pixel::Convolution;
 
 // Line i, for the results in row y.
-fn lay(scratch: &[u8], w: usize, h: usize, kernel: &Kernel, y: usize, i: usize, lines: &mut [u8])
-    requires { Laid w h scratch.now lines.old × (y < h) × (i < kernel.now.convolution.rows) }
-    ensures line_laid { LineLaid w h kernel.now.convolution y i scratch.now lines.old lines.new }
+fn lay(scratch: &[u8], w: usize, h: usize, k: Convolution, y: usize, i: usize, lines: &mut [u8])
+    requires { Laid w h k scratch.now lines.old × (y < h) × (i < k.rows) }
+    ensures line_laid { LineLaid w h k y i scratch.now lines.old lines.new }
     ensures lines_len_unchanged { length lines.new ≡ length lines.old }
 {
-    let k = kernel.convolution;
     let q = place_of(k.edge, h, k.row, y + i);
     if q < h {
         let o = 4 * (q * w);
@@ -22,12 +22,12 @@ fn lay(scratch: &[u8], w: usize, h: usize, kernel: &Kernel, y: usize, i: usize, 
 }
 
 // A line for each of the kernel's rows.
-pub fn lay_lines(scratch: &[u8], w: usize, h: usize, kernel: &Kernel, y: usize, lines: &mut [u8])
-    requires { Laid w h scratch.now lines.old × (y < h) }
-    ensures lines_laid { LinesLaid w h kernel.now.convolution y scratch.now lines.new }
+pub fn lay_lines(scratch: &[u8], w: usize, h: usize, k: Convolution, y: usize, lines: &mut [u8])
+    requires { Laid w h k scratch.now lines.old × (y < h) }
+    ensures lines_laid { LinesLaid w h k y scratch.now lines.new }
     ensures lines_len_unchanged { length lines.new ≡ length lines.old }
 {
-    for i in 0..kernel.convolution.rows {
-        lay(scratch, w, h, kernel, y, i, lines);
+    for i in 0..k.rows {
+        lay(scratch, w, h, k, y, i, lines);
     }
 }

@@ -38,7 +38,8 @@ fn pays(rect: Rect) -> bool
 }
 
 // The tables are worked out once; `inner` is the table of the step's space where the input is converted, or empty. The conversion is in the
-// tables, so the input is read as it is kept.
+// tables, so the input is read as it is kept. Apart from its caller, so that no other step's stack holds the tables.
+#[inline(never)]
 fn draw_tabled(
     workspace: &mut [u8],
     source: &[u8],

@@ -25,7 +25,9 @@ fn copy_row(src: &[u8], i: usize, dst: &mut [u8], j: usize, n: usize)
     if n == 4 {
         copy_pixel(src, i, dst, j);
     } else {
-        dst[j..j + n].copy_from_slice(&src[i..i + n]);
+        for (k, x) in dst[j..j + n].iter_mut().enumerate() {
+            *x = src[i + k];
+        }
     }
 }
 

@@ -12,13 +12,17 @@ pub fn copy(src: &[u8], dst: &mut [u8])
     requires { length src.now ≡ length dst.old }
     ensures { dst.new ≡ src.now }
 {
-    dst.copy_from_slice(src);
+    for (i, x) in dst.iter_mut().enumerate() {
+        *x = src[i];
+    }
 }
 
 pub fn clear(dst: &mut [u8])
     ensures { dst.new ≡ replicate (length dst.old) 0 }
 {
-    dst.fill(0);
+    for x in dst.iter_mut() {
+        *x = 0;
+    }
 }
 
 // Stores p as each of n pixels.
@@ -48,7 +52,7 @@ pub fn clear_pixels(dst: &mut [u8], from: usize, to: usize)
     requires { (from ≤ to) × (4 * to ≤ length dst.old) }
     ensures { Painted (λ x. transparent) 0 from to dst.old dst.new }
 {
-    dst[4 * from..4 * to].fill(0);
+    clear(&mut dst[4 * from..4 * to]);
 }
 
 // Copies pixels of src, from its pixel `at` on, to the pixels from `from` up to `to` of a row.
@@ -58,7 +62,7 @@ pub fn copy_pixels(src: &[u8], at: usize, dst: &mut [u8], from: usize, to: usize
 {
     let o = 4 * at;
     let e = o + 4 * (to - from);
-    dst[4 * from..4 * to].copy_from_slice(&src[o..e]);
+    copy(&src[o..e], &mut dst[4 * from..4 * to]);
 }
 
 // The first place from `from` on, and at most `to`, at which x + m is not below t.

@@ -9,6 +9,7 @@ ghost use Rattle.render.specs.Code.{usable_of, settled, outcome, AllBytes};
 use checks::sizes::{check_rectangle, check_sizes};
 use damage::SoFar;
 use filter::{Answer, Call, Refusal, Sheet};
+use kernel_row::row::clear;
 use kernel_row::scan::first_invalid;
 
 // 14, over a buffer of h rows of w pixels.
@@ -102,6 +103,6 @@ pub fn finish(answer: Answer, drawn: SoFar, scratch: &mut [u8]) -> Result<usize,
     ensures scratch_after { scratch.new ≡ if_accepted answer (zeros scratch.old) scratch.old }
 {
     answer?;
-    scratch.fill(0);
+    clear(scratch);
     Ok(drawn.count)
 }

@@ -18,7 +18,9 @@ pub fn put_word(out: &mut [u8], at: usize, word: &[u8]) -> usize
     ensures { Put word.now at out.old out.new result }
 {
     let end = at + word.len();
-    out[at..end].copy_from_slice(word);
+    for (i, x) in out[at..end].iter_mut().enumerate() {
+        *x = word[i];
+    }
     end
 }
 

@@ -5,4 +5,4 @@ use Rattle.draw_convolve.proofs.StagedRows.{LinesBefore}
 use Rattle.draw_convolve.proofs.lines.lay_lines.Given as goal
 
 abbrev pub invariant-loop-i : goal.invariant-loop-i
-invariant-loop-i l = (g : Picture) → ScratchHolds l.w l.h l.kernel.convolution l.y (l.y + 1) g l.scratch → LinesBefore l.w l.h l.kernel.convolution g l.y l.i l.lines
+invariant-loop-i l = (g : Picture) → ScratchHolds l.w l.h l.k l.y (l.y + 1) g l.scratch → LinesBefore l.w l.h l.k g l.y l.i l.lines
